@@ -1,0 +1,4 @@
+pub mod Refusals
+pub mod Slots
+pub mod Reversal
+pub mod Services
