@@ -42,10 +42,6 @@ largestPower test (suc k) = cond (test (2 ^ suc k)) (2 ^ suc k) (largestPower te
 unfoldable pub spacing : ℕ → ℕ → ℕ → ℕ
 spacing b distance weight = largestPower (serves b distance weight) b
 
--- That is the spacing for every distance from 1 on and every weight that the whole table carries.
-abbrev pub SpacingRule : Type 0
-SpacingRule = (b distance weight : ℕ) → 1 ≤ distance → weight ≤ mostWeight * 2 ^ b → IsSpacing b distance weight (spacing b distance weight)
-
 -- how many slots a session of spacing t has in a table of 2 ^ b slots
 abbrev pub sizeOf : ℕ → ℕ → ℕ
 sizeOf b t = 2 ^ b / t
@@ -83,10 +79,10 @@ serviceIn b distance weight =
 abbrev pub serviceFor : ℕ → ℕ → Result Service Reason
 serviceFor level weight =
     cond (ltb level (length distances))
-        (cond (leb 1 weight && leb weight (mostWeight * slots))
-            (Ok (serviceIn bits (getD distances level 0) weight))
-            (Err BadWeight))
-        (Err BadLevel)
+    (cond (leb 1 weight && leb weight (mostWeight * slots))
+    (Ok (serviceIn bits (getD distances level 0) weight))
+    (Err BadWeight))
+    (Err BadLevel)
 
 -- what is promised of a service that is given: its spacing is the rule's, its slots are as many as fit, and its weights carry its grant
 pub record Served (level weight : ℕ) (s : Service) : Type 0 where
