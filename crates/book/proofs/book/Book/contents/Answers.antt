@@ -1,0 +1,9 @@
+use native.Mathlib.Omega.{arith}
+use Rattle.table.specs.Slots.{bits}
+use Rattle.book.proofs.Tested.{all-carried}
+use Rattle.book.proofs.book.Book.contents.Needs as need
+
+pub slots-of-requires : need.slots-of-requires
+slots-of-requires c κs =
+    let b = c .args .self .now in
+    record { long = omega (arith, b .long); carried = all-carried bits (b .ranks) (b .fit) }

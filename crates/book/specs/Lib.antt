@@ -1,0 +1,9 @@
+pub mod Searches
+pub mod Entries
+pub mod Sets
+pub mod Moves
+pub mod Slots
+pub mod Books
+pub mod Sound
+pub mod Levels
+pub mod Standing
