@@ -77,10 +77,10 @@ place-fits n xs s f p =
 
 pub set-fit : (n : ℕ) (xs : Ranks) (f : ℕ) (x : Option Session) → f < length xs → allFit n xs ≡ true → fitsAt n f x ≡ true → allFit n (set xs f x) ≡ true
 set-fit n xs f x l h new =
-    each-fit n (set xs f x) (λ g m. elim (cases-eq g f)
-        [ inl e ↦ ap (λ y. fitsAt n y (getD (set xs f x) y None)) e ∙ ap (fitsAt n f) (getD-set-same xs f x None l) ∙ new
-        | inr e ↦ ap (fitsAt n g) (getD-set-other xs f g x None e) ∙ fit-each n xs h g (omega (arith, m, length-set xs f x))
-        ])
+    each-fit n (set xs f x) (λ g m. elim (cases-eq g f) [
+      | inl e ↦ ap (λ y. fitsAt n y (getD (set xs f x) y None)) e ∙ ap (fitsAt n f) (getD-set-same xs f x None l) ∙ new
+      | inr e ↦ ap (fitsAt n g) (getD-set-other xs f g x None e) ∙ fit-each n xs h g (omega (arith, m, length-set xs f x))
+    ])
 
 -- what holds of each entry and of none holds of the session that holds a rank
 pub holder-has : (P : Option Session → Type 0) → P None → (xs : Ranks) → ((i : ℕ) → i < length xs → P (getD xs i None)) → (k r : ℕ) → P (holderFrom k xs r)

@@ -24,10 +24,13 @@ pub ghost-self : need.ghost-self
 ghost-self c =
     let b = c .args .self .now in
     let p = place-found bits (b .ranks) (c .args .session) (c .in-Some .first) (c .in-Some .ensures tt) in
-    let l = below (b .ranks) (c .args .session) (c .in-Some .first) (c .in-Some .ensures tt) in
-    ( length-set (b .ranks) (c .in-Some .first) (Some (c .args .session)) ∙ b .long
-    , (set-fit bits (b .ranks) (c .in-Some .first) (Some (c .args .session)) (omega (arith, b .long, l)) (b .fit) (place-fits bits (b .ranks) (c .args .session) (c .in-Some .first) p)
-    , tt))
+    let l = below (b .ranks) (c .args .session) (c .in-Some .first) (c .in-Some .ensures tt) in (
+      length-set (b .ranks) (c .in-Some .first) (Some (c .args .session)) ∙ b .long,
+      (
+        set-fit bits (b .ranks) (c .in-Some .first) (Some (c .args .session)) (omega (arith, b .long, l)) (b .fit) (place-fits bits (b .ranks) (c .args .session) (c .in-Some .first) p),
+        tt,
+      ),
+    )
 
 pub returns-in-Some : need.returns-in-Some
 returns-in-Some c = record { place = c .in-Some .ensures tt; after = filled-at bits (c .args .self .now .ranks) (c .args .session) (c .in-Some .first) (c .in-Some .ensures tt) }

@@ -1,0 +1,9 @@
+pub mod Scans
+pub mod Programs
+pub mod Ports
+pub mod Emptying
+pub mod Starts
+pub mod Books
+pub mod Changing
+pub mod Paths
+pub mod Reserves
