@@ -6,11 +6,11 @@ use Prim.Native.Nat.{ℕ, _≤_, _<_}
 use lib.Dec.{ltb}
 use lib.ListN.{length, getD, set, take}
 use lib.Seq.{length-take-le, getD-take, take-set-lt}
-use Rattle.std.proofs.shelf.Tests.{lt-ltb}
+use borrow.Author.Tests.{lt-ltb, le-ltb}
 use Rattle.std.specs.declared.result.Result.the-variants.{Ok, Err}
 use Rattle.table.specs.declared.slot.Slot.{Slot}
 use Rattle.table.specs.declared.refusal.Layer.the-variants.{Bank}
-use Rattle.table.specs.declared.refusal.Reason.the-variants.{PortShut}
+use Rattle.table.specs.declared.refusal.Reason.the-variants.{PortShut, NoSuchSlot}
 use Rattle.table.specs.Refusals.{refusal}
 use Rattle.table.specs.Slots.{slots, laneCount}
 use Rattle.bank.specs.declared.port.Port.{Port}
@@ -31,6 +31,9 @@ module _ (n : ℕ) (xs : List Port) (p : ℕ) (short : n ≤ length xs) (within 
 
   pub state-after : (b : Bool) → take n (withState xs p b) ≡ stateAfter (take n xs) p b
   state-after b = simp (has-port, port-front) (take-set-lt n xs p _ within)
+
+  pub no-slot-front : (s : ℕ) → slots ≤ s → Err (refusal Bank NoSuchSlot 0) ≡ slotAnswer (take n xs) p s
+  no-slot-front s past = simp (has-port, le-ltb s slots past)
 
   module _ (s : ℕ) (low : s < slots) where
     pub slot-front : Ok (slotAt xs p s) ≡ slotAnswer (take n xs) p s
