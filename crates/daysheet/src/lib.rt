@@ -1,0 +1,3 @@
+// A day sheet's lines: what a line asks, and how its answer is written.
+pub mod bytes;
+pub mod number;
