@@ -1,2 +1,5 @@
 pub mod Bytes
 pub mod Numbers
+pub mod Parts
+pub mod Tokens
+pub mod Cursor

@@ -1,3 +1,6 @@
 // A day sheet's lines: what a line asks, and how its answer is written.
 pub mod bytes;
 pub mod number;
+pub mod field;
+pub mod fields;
+pub mod cut;
