@@ -3,3 +3,4 @@ pub mod Numbers
 pub mod Parts
 pub mod Tokens
 pub mod Cursor
+pub mod Commands

@@ -4,3 +4,6 @@ pub mod number;
 pub mod field;
 pub mod fields;
 pub mod cut;
+pub mod path;
+pub mod command;
+pub mod parse;

@@ -1,0 +1,12 @@
+ghost use Prim.Native.Nat.{_≤_};
+
+// The most ports that a path has.
+pub const MOST_PORTS: usize = 8;
+
+// The ports of a path, in its order.
+#[derive(Clone, Copy)]
+pub struct Path {
+    pub(crate) ports: [usize; MOST_PORTS],
+    pub(crate) len: usize,
+    ghost fits: { len ≤ 8 },
+}
