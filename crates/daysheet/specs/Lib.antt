@@ -4,3 +4,5 @@ pub mod Parts
 pub mod Tokens
 pub mod Cursor
 pub mod Commands
+pub mod Told
+pub mod Gathered

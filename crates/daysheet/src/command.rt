@@ -2,7 +2,8 @@ ghost use mathlib.Core.Path.{_≡_};
 ghost use mathlib.Core.List.{_++_, _∷_, []};
 ghost use Prim.Native.Nat.{ℕ, _+_, _<_};
 ghost use Rattle.std.specs.shelf.Text.{sameBytes};
-ghost use Rattle.daysheet.specs.Commands.{portsOf, formOf, fewest, most};
+ghost use Rattle.daysheet.specs.Commands.{formOf, fewest, most};
+ghost use Rattle.daysheet.specs.Told.{portsOf};
 use crate::path::MOST_PORTS;
 use crate::path::Path;
 

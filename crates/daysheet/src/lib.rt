@@ -6,4 +6,7 @@ pub mod fields;
 pub mod cut;
 pub mod path;
 pub mod command;
+mod refuse;
+mod numbers;
+mod gather;
 pub mod parse;
