@@ -6,3 +6,4 @@ pub mod Cursor
 pub mod Commands
 pub mod Told
 pub mod Gathered
+pub mod Answers

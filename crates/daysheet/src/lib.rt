@@ -10,3 +10,4 @@ mod refuse;
 mod numbers;
 mod gather;
 pub mod parse;
+pub mod answer;

@@ -1,0 +1,22 @@
+use mathlib.Core.Path.{_≡_, sym, ap, subst, _∙_}
+use native.Mathlib.Omega.{arith}
+use lib.ListN.{length}
+use Rattle.daysheet.specs.Answers.{Wrote, hexText}
+use Rattle.daysheet.proofs.Puts.{none, hex-turn, room, hex-done}
+use Rattle.daysheet.proofs.answer.put_hex.Needs as need
+
+pub loop-byte-holds : need.loop-byte-holds
+loop-byte-holds c = none (c .args .out .now) (c .args .at)
+
+pub put-byte-end-requires : need.put-byte-end-requires
+put-byte-end-requires c κs = omega (arith, c .loop-byte .inv .len, room (c .args .bytes .now) (c .loop-byte .byte-index) (omega arith))
+
+pub put-byte-end-requires-in-loop-byte : need.put-byte-end-requires-in-loop-byte
+put-byte-end-requires-in-loop-byte c κs = omega (arith, c .put-byte-end .ensures .len, c .loop-byte .inv .len, room (c .args .bytes .now) (c .loop-byte .byte-index) (omega arith))
+
+pub loop-byte-again : need.loop-byte-again
+loop-byte-again c =
+    hex-turn (c .args .bytes .now) (c .loop-byte .byte-index) (c .loop-byte-test .taken) (omega arith) (c .hex-digit .ensures) (c .hex-digit-in-loop-byte .ensures) (c .loop-byte .inv) (c .put-byte-end .ensures) (c .put-byte-end-in-loop-byte .ensures)
+
+pub returns : need.returns
+returns c = hex-done (c .args .bytes .now) (c .loop-byte .byte-index) (c .loop-byte-test .left) (c .loop-byte .inv)

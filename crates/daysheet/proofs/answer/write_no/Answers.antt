@@ -1,0 +1,15 @@
+use mathlib.Core.Path.{ap, subst}
+use mathlib.Core.List.{_++_, _∷_, []}
+use native.Mathlib.Omega.{arith}
+use lib.Chars.{codes}
+use Rattle.daysheet.specs.Answers.{Wrote, numbersText}
+use Rattle.daysheet.proofs.Puts.{go-on}
+use Rattle.daysheet.proofs.answer.write_no.Needs as need
+
+pub returns : need.returns
+returns c =
+    let a = c .put-bytes-a .ensures .len in
+    let b = c .put-number-b .ensures .within in
+    let h = go-on (omega arith) (c .put-bytes-a .ensures)
+        (go-on (omega arith) (c .put-number-b .ensures .text) (go-on (omega arith) (c .put-number-c .ensures .text) (c .put-bytes .ensures))) in
+    subst (λ n. Wrote (c .args .out .now) (c .put-bytes .last .out) 0 (c .put-bytes .result) (codes "no" ++ numbersText (n ∷ c .args .refusal .place ∷ []))) (c .number .ensures) h
