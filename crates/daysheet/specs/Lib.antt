@@ -7,3 +7,5 @@ pub mod Commands
 pub mod Told
 pub mod Gathered
 pub mod Answers
+pub mod Lines
+pub mod Feed

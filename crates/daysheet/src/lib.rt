@@ -11,3 +11,5 @@ mod numbers;
 mod gather;
 pub mod parse;
 pub mod answer;
+pub mod feed;
+pub mod lines;
