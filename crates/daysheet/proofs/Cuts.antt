@@ -2,10 +2,9 @@
 use mathlib.Core.Path.{_≡_, refl, sym, ap, subst, _∙_}
 use mathlib.Core.Bool.{Bool, true, false, cond}
 use mathlib.Core.Logic.{⊎-elim}
-use mathlib.Core.List.{List, [], _∷_, _++_, map}
+use mathlib.Core.List.{List, [], _∷_, map}
 use Prim.Native.Nat.{ℕ, suc, _+_, _-_, _<_, _≤_}
 use native.Mathlib.Omega.{arith}
-use lib.Dec.{eqb, ltb}
 use lib.ListN.{length, getD, take, drop}
 use borrow.Author.Tests.{eq-eqb, ne-eqb}
 use Rattle.std.proofs.shelf.Lists.{at-drop-more, at-drop-all, drop-drop, take-all}
@@ -13,7 +12,7 @@ use Rattle.std.proofs.shelf.Tests.{cases-eq}
 use Rattle.daysheet.specs.declared.bytes.Class.{Class}
 use Rattle.daysheet.specs.declared.bytes.Class.the-variants.{Digit, Letter, Blank, Stray}
 use Rattle.daysheet.specs.Bytes.{classOf}
-use Rattle.daysheet.specs.Parts.{Part, part, blank, grown, partsFrom, partsOf, blankAfter, follow, joined, blankless, Stands, AllStand, Cut}
+use Rattle.daysheet.specs.Parts.{Part, part, blank, grown, partsFrom, partsOf, blankAfter, follow, joined, Stands, AllStand, Cut}
 use Rattle.daysheet.specs.declared.fields.Fields.{Fields}
 use Rattle.daysheet.specs.Tokens.{Token, isLetter, allLetters, tokenOf}
 use Rattle.daysheet.specs.Cursor.{toCome}

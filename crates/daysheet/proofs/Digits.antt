@@ -16,7 +16,6 @@ use Rattle.std.proofs.shelf.Decimals.{decimal-digit, decimal-value, digits-deci
 use Rattle.std.proofs.shelf.Lists.{take-all}
 use Rattle.std.proofs.shelf.Numerals.{Numerals, numerals-by-fold}
 use Rattle.std.proofs.shelf.Tests.{cases-eq}
-use Rattle.daysheet.specs.declared.bytes.Class.{Class}
 use Rattle.daysheet.specs.declared.bytes.Class.the-variants.{Digit, Letter, Blank, Stray}
 use Rattle.daysheet.specs.Bytes.{within, classOf}
 use Rattle.daysheet.specs.Numbers.{most, digitsFrom, zeroThen, numberOf, Spells}

@@ -1,18 +1,16 @@
 -- The scan for a line feed, the first line of a text, and that the lines are the text.
 use mathlib.Core.Path.{_≡_, refl, sym, ap, subst, _∙_}
-use mathlib.Core.Bool.{Bool, true, false, cond}
 use mathlib.Core.Logic.{⊎-elim}
-use mathlib.Core.List.{List, [], _∷_, _++_}
+use mathlib.Core.List.{List, [], _∷_}
 use Prim.Native.Nat.{ℕ, suc, _+_, _<_, _≤_}
 use native.Mathlib.Omega.{arith}
 use lib.ListN.{length, getD, take, drop}
 use borrow.Author.Tests.{eq-eqb, ne-eqb}
 use Rattle.std.proofs.shelf.Lists.{at-drop-more, at-drop-all, take-all, drop-all, length-drop}
 use Rattle.std.proofs.shelf.Tests.{cases-eq, cases-lt}
-use Rattle.std.specs.declared.option.Option.{Option}
-use Rattle.std.specs.declared.option.Option.the-variants.{Some, None}
+use Rattle.std.specs.declared.option.Option.the-variants.{Some}
 use Rattle.daysheet.specs.Feed.{Split, splitOf}
-use Rattle.daysheet.specs.Lines.{feed, led, linesOf, feedAfter, ended, completed, feedless, AllFeedless, Sheet}
+use Rattle.daysheet.specs.Lines.{feed, led, linesOf, feedAfter, ended, completed, AllFeedless, Sheet}
 
 -- the scan
 

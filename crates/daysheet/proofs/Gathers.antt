@@ -21,10 +21,11 @@ use Rattle.daysheet.specs.declared.command.Form.{Form}
 use Rattle.daysheet.specs.declared.command.Form.the-variants.{Reserve, Release, Shut, Reopen, Table}
 use Rattle.daysheet.specs.declared.field.Field.{Field}
 use Rattle.daysheet.specs.declared.fields.Fields.{Fields}
-use Rattle.daysheet.specs.Tokens.{Token, word, number, stray, told, tokensOf}
+use Rattle.daysheet.specs.Tokens.{Token, number, told, tokensOf}
 use Rattle.daysheet.specs.Cursor.{toCome, Step}
 use Rattle.daysheet.specs.Commands.{given, before, numbersIn, refused, formNamed, fewest, most, asks, byCount, byNumbers, byForm, byFields, commandOf}
-use Rattle.daysheet.specs.Gathered.{keep, kept, formed, formFirst}
+use Rattle.daysheet.specs.Sizes.{keep}
+use Rattle.daysheet.specs.Gathered.{kept, formed, formFirst}
 
 -- one more, where there is room and where there is none
 

@@ -1,7 +1,7 @@
 -- What a line asks for: the three questions of a line, in their order.
 use mathlib.Core.Bool.{cond}
 use mathlib.Core.List.{List, [], _∷_, map}
-use Prim.Native.Nat.{ℕ}
+use Prim.Native.Nat.{ℕ, _+_}
 use lib.Chars.{codes}
 use lib.Dec.{ltb}
 use lib.ListN.{length, getD, drop}
@@ -18,6 +18,7 @@ use Rattle.table.specs.Refusals.{refusal}
 use Rattle.daysheet.specs.declared.command.Form.{Form}
 use Rattle.daysheet.specs.declared.command.Form.the-variants.{Reserve, Release, Shut, Reopen, Table}
 use Rattle.daysheet.specs.declared.numbers.Given.{Given}
+use Rattle.daysheet.specs.Sizes.{mostPorts}
 use Rattle.daysheet.specs.Tokens.{Token, word, number, stray, tokensOf}
 
 -- what an accepted line asks for; a reserve with its session number, level, weight and ports
@@ -39,7 +40,7 @@ formOf bs =
 
 -- the fewest numbers that a form wants
 abbrev pub fewest : Form → ℕ
-fewest Reserve = 4
+fewest Reserve = 3 + 1
 fewest Release = 1
 fewest Shut = 1
 fewest Reopen = 1
@@ -47,7 +48,7 @@ fewest Table = 1
 
 -- the most numbers that it takes
 abbrev pub most : Form → ℕ
-most Reserve = 11
+most Reserve = 3 + mostPorts
 most Release = 1
 most Shut = 1
 most Reopen = 1

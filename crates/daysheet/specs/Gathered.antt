@@ -1,5 +1,5 @@
 -- The first numbers of a line: as many as a form takes, and one more, which is surplus to every form.
-use mathlib.Core.List.{List, []}
+use mathlib.Core.List.{List}
 use Prim.Native.Nat.{ℕ}
 use lib.ListN.{take}
 use Rattle.std.specs.declared.option.Option.{Option}
@@ -12,12 +12,9 @@ use Rattle.daysheet.specs.declared.field.Field.{Field}
 use Rattle.daysheet.specs.declared.command.Form.{Form}
 use Rattle.daysheet.specs.declared.numbers.Given.{Given}
 use Rattle.daysheet.specs.declared.numbers.Numbers.{Numbers}
+use Rattle.daysheet.specs.Sizes.{keep}
 use Rattle.daysheet.specs.Tokens.{told}
 use Rattle.daysheet.specs.Commands.{refused, formNamed}
-
--- how many are kept
-abbrev pub keep : ℕ
-keep = 12
 
 abbrev pub itemsOf : Numbers → List Given
 itemsOf n = take (n .len) (n .items)

@@ -1,20 +1,21 @@
 ghost use mathlib.Core.Path.{_≡_};
 ghost use mathlib.Core.List.{_++_, _∷_, []};
-ghost use Prim.Native.Nat.{ℕ, _+_, _*_, _<_, _≤_};
+ghost use Prim.Native.Nat.{_+_, _*_, _<_, _≤_};
 ghost use lib.Chars.{codes};
 ghost use lib.ListN.{length};
 ghost use Rattle.std.specs.Written.{decimal};
+ghost use Rattle.daysheet.specs.Sizes.{answerBytes};
 ghost use Rattle.daysheet.specs.Answers.{Wrote, okText, hexDigit, hexText, imageText, noText};
 use table::refusal::Refusal;
 
 // The bytes of a buffer for an answer line: `ok `, the hexadecimal digits of an image and the line's end.
-pub const ANSWER: usize = 260;
+pub const ANSWER: usize = 3 + 2 * IMAGE + 1;
 
 // The bytes of a table's image.
 pub const IMAGE: usize = 128;
 
 fn put_byte(out: &mut [u8; ANSWER], at: usize, byte: u8) -> usize
-    requires { ⌜ at < 260 ⌝ }
+    requires { ⌜ at < answerBytes ⌝ }
     ensures { λ r. ⌜ Wrote (now (out .entry)) (now (out .exit)) at r (byte ∷ []) ⌝ }
 {
     out[at] = byte;
@@ -22,7 +23,7 @@ fn put_byte(out: &mut [u8; ANSWER], at: usize, byte: u8) -> usize
 }
 
 fn put_bytes(out: &mut [u8; ANSWER], at: usize, bytes: &[u8]) -> usize
-    requires { ⌜ at + length (now bytes) ≤ 260 ⌝ }
+    requires { ⌜ at + length (now bytes) ≤ answerBytes ⌝ }
     ensures { λ r. ⌜ Wrote (now (out .entry)) (now (out .exit)) at r (now (bytes .entry)) ⌝ }
 {
     let end = at + bytes.len();
@@ -32,7 +33,7 @@ fn put_bytes(out: &mut [u8; ANSWER], at: usize, bytes: &[u8]) -> usize
 }
 
 fn put_decimal(out: &mut [u8; ANSWER], at: usize, n: usize) -> usize
-    requires { ⌜ at + length (decimal n) ≤ 260 ⌝ }
+    requires { ⌜ at + length (decimal n) ≤ answerBytes ⌝ }
     ensures { λ r. ⌜ Wrote (now (out .entry)) (now (out .exit)) at r (decimal n) ⌝ }
 {
     if n < 10 {
@@ -44,7 +45,7 @@ fn put_decimal(out: &mut [u8; ANSWER], at: usize, n: usize) -> usize
 
 // A blank and a number.
 fn put_number(out: &mut [u8; ANSWER], at: usize, n: usize) -> usize
-    requires { ⌜ at + 21 ≤ 260 ⌝ }
+    requires { ⌜ at + 21 ≤ answerBytes ⌝ }
     ensures text { λ r. ⌜ Wrote (now (out .entry)) (now (out .exit)) at r (codes " " ++ decimal n) ⌝ }
     ensures within { λ r. ⌜ r ≤ at + 21 ⌝ }
 {
@@ -60,7 +61,7 @@ fn hex_digit(x: u8) -> u8
 }
 
 fn put_hex(out: &mut [u8; ANSWER], at: usize, bytes: &[u8]) -> usize
-    requires { ⌜ at + 2 * length (now bytes) ≤ 260 ⌝ }
+    requires { ⌜ at + 2 * length (now bytes) ≤ answerBytes ⌝ }
     ensures { λ r. ⌜ Wrote (now (out .entry)) (now (out .exit)) at r (hexText (now (bytes .entry))) ⌝ }
 {
     let mut end = at;

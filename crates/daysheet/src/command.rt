@@ -1,7 +1,8 @@
 ghost use mathlib.Core.Path.{_≡_};
 ghost use mathlib.Core.List.{_++_, _∷_, []};
-ghost use Prim.Native.Nat.{ℕ, _+_, _<_};
+ghost use Prim.Native.Nat.{_+_, _<_};
 ghost use Rattle.std.specs.shelf.Text.{sameBytes};
+ghost use Rattle.daysheet.specs.Sizes.{mostPorts};
 ghost use Rattle.daysheet.specs.Commands.{formOf, fewest, most};
 ghost use Rattle.daysheet.specs.Told.{portsOf};
 use crate::path::MOST_PORTS;
@@ -50,7 +51,7 @@ impl Path {
     }
 
     pub(crate) fn push(&mut self, port: usize)
-        requires { ⌜ now self .len < 8 ⌝ }
+        requires { ⌜ now self .len < mostPorts ⌝ }
         ensures ports { λ _. ⌜ portsOf (now (self .exit)) ≡ portsOf (now (self .entry)) ++ (port ∷ []) ⌝ }
         ensures len { λ _. ⌜ now (self .exit) .len ≡ now (self .entry) .len + 1 ⌝ }
     {

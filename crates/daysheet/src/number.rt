@@ -1,5 +1,5 @@
 ghost use mathlib.Core.Path.{_≡_};
-ghost use Prim.Native.Nat.{ℕ, _≤_};
+ghost use Prim.Native.Nat.{_≤_};
 ghost use Rattle.daysheet.specs.Numbers.{digitsFrom, numberOf, most, Spells};
 use crate::bytes::Class;
 use crate::bytes::class_of;

@@ -1,9 +1,11 @@
 ghost use mathlib.Core.Path.{_≡_};
 ghost use Prim.Native.Nat.{_≤_};
 ghost use lib.ListN.{length};
+ghost use Rattle.daysheet.specs.Sizes.{keep};
+use crate::path::MOST_PORTS;
 
 // How many numbers of a line are kept: one more than any form takes.
-pub const KEPT: usize = 12;
+pub const KEPT: usize = 4 + MOST_PORTS;
 
 // A number of a line, with its place.
 #[derive(Clone, Copy)]
@@ -17,6 +19,6 @@ pub struct Given {
 pub struct Numbers {
     pub(crate) items: [Given; KEPT],
     pub(crate) len: usize,
-    ghost fits: { len ≤ 12 },
-    ghost long: { length items ≡ 12 },
+    ghost fits: { len ≤ keep },
+    ghost long: { length items ≡ keep },
 }

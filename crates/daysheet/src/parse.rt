@@ -1,7 +1,8 @@
 ghost use mathlib.Core.Path.{_≡_};
 ghost use mathlib.Core.List.{map};
-ghost use Prim.Native.Nat.{ℕ, _≤_};
+ghost use Prim.Native.Nat.{_≤_};
 ghost use lib.ListN.{length};
+ghost use Rattle.daysheet.specs.Sizes.{mostPorts};
 ghost use Rattle.daysheet.specs.Commands.{fewest, most, valueOf, asks, byCount, commandOf};
 ghost use Rattle.daysheet.specs.Gathered.{formFirst};
 ghost use Rattle.daysheet.specs.Told.{portsOf, askedBy, answered};
@@ -29,7 +30,7 @@ fn form_of(first: Option<Field>) -> Result<Form, Refusal>
 }
 
 fn path_of(ports: &[Given]) -> Path
-    requires { ⌜ length (now ports) ≤ 8 ⌝ }
+    requires { ⌜ length (now ports) ≤ mostPorts ⌝ }
     ensures { λ r. ⌜ portsOf r ≡ map valueOf (now (ports .entry)) ⌝ }
 {
     let mut path = Path::empty();

@@ -1,4 +1,5 @@
 ghost use Prim.Native.Nat.{_≤_};
+ghost use Rattle.daysheet.specs.Sizes.{mostPorts};
 
 // The most ports that a path has.
 pub const MOST_PORTS: usize = 8;
@@ -8,5 +9,5 @@ pub const MOST_PORTS: usize = 8;
 pub struct Path {
     pub(crate) ports: [usize; MOST_PORTS],
     pub(crate) len: usize,
-    ghost fits: { len ≤ 8 },
+    ghost fits: { len ≤ mostPorts },
 }

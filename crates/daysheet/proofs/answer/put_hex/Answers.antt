@@ -1,7 +1,4 @@
-use mathlib.Core.Path.{_≡_, sym, ap, subst, _∙_}
 use native.Mathlib.Omega.{arith}
-use lib.ListN.{length}
-use Rattle.daysheet.specs.Answers.{Wrote, hexText}
 use Rattle.daysheet.proofs.Puts.{none, hex-turn, room, hex-done}
 use Rattle.daysheet.proofs.answer.put_hex.Needs as need
 

@@ -1,4 +1,3 @@
-use mathlib.Core.Path.{_≡_}
 use lib.ListN.{take}
 use Rattle.daysheet.specs.Answers.{Wrote, hexText}
 use Rattle.daysheet.proofs.answer.put_hex.Given as given

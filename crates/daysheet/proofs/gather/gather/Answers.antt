@@ -1,4 +1,4 @@
-use mathlib.Core.Path.{_≡_, sym, ap, _∙_}
+use mathlib.Core.Path.{ap, _∙_}
 use mathlib.Core.List.{_∷_}
 use Prim.Native.Nat.{_≤_}
 use native.Mathlib.Omega.{arith}
@@ -6,7 +6,8 @@ use lib.ListN.{length}
 use Rattle.std.proofs.shelf.Lists.{length-take-le}
 use Rattle.daysheet.specs.Commands.{numbersIn}
 use Rattle.daysheet.specs.Cursor.{toCome}
-use Rattle.daysheet.specs.Gathered.{keep, itemsOf, kept}
+use Rattle.daysheet.specs.Sizes.{keep}
+use Rattle.daysheet.specs.Gathered.{itemsOf, kept}
 use Rattle.daysheet.specs.Tokens.{told}
 use Rattle.daysheet.proofs.Gathers.{turn, done}
 use Rattle.daysheet.proofs.gather.gather.Needs as need
