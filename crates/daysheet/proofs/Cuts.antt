@@ -69,16 +69,16 @@ part-after at n [] e h = absurd (omega arith)
 part-after at n (b ∷ bs) e h =
     ⊎-elim
     (λ is.
-        let z : n ≡ 0 = sym e ∙ here b bs is in
-        subst (λ m. partsFrom at (b ∷ bs) ≡ part at (take m (b ∷ bs)) ∷ partsFrom (at + suc m) (drop (suc m) (b ∷ bs))) (sym z)
-        (rw (eq-eqb b blank is)))
+    let z : n ≡ 0 = sym e ∙ here b bs is in
+    subst (λ m. partsFrom at (b ∷ bs) ≡ part at (take m (b ∷ bs)) ∷ partsFrom (at + suc m) (drop (suc m) (b ∷ bs))) (sym z)
+    (rw (eq-eqb b blank is)))
     (λ ne.
-        let m : ℕ = blankAfter bs in
-        let z : n ≡ suc m = omega (arith, later b bs ne) in
-        let lt : m < length bs = omega arith in
-        let far : (at + 1) + suc m ≡ at + suc (suc m) = omega arith in
-        subst (λ k. partsFrom at (b ∷ bs) ≡ part at (take k (b ∷ bs)) ∷ partsFrom (at + suc k) (drop (suc k) (b ∷ bs))) (sym z)
-        (rw (ne-eqb b blank ne) (ap (grown at b) (part-after (at + 1) m bs refl lt) ∙ ap (λ k. part at (b ∷ take m bs) ∷ partsFrom k (drop (suc m) bs)) far)))
+    let m : ℕ = blankAfter bs in
+    let z : n ≡ suc m = omega (arith, later b bs ne) in
+    let lt : m < length bs = omega arith in
+    let far : (at + 1) + suc m ≡ at + suc (suc m) = omega arith in
+    subst (λ k. partsFrom at (b ∷ bs) ≡ part at (take k (b ∷ bs)) ∷ partsFrom (at + suc k) (drop (suc k) (b ∷ bs))) (sym z)
+    (rw (ne-eqb b blank ne) (ap (grown at b) (part-after (at + 1) m bs refl lt) ∙ ap (λ k. part at (b ∷ take m bs) ∷ partsFrom k (drop (suc m) bs)) far)))
     (cases-eq b blank)
 
 pub part-more : (line : List ℕ) (at n : ℕ) → blankAfter (drop at line) ≡ n → n < length (drop at line) → partsFrom at (drop at line) ≡ part at (take n (drop at line)) ∷ partsFrom (at + n + 1) (drop (at + n + 1) line)

@@ -87,8 +87,8 @@ spelled (b ∷ bs) n e =
     ⊎-elim
     (λ is. zero-alone b n bs is (rw (eq-eqb b 48 is) at e))
     (λ ne.
-        let r = from-some (b ∷ bs) 0 n (omega arith) (rw (ne-eqb b 48 ne) at e) in
-        (sym (decimal-value own (b ∷ bs) (r .0) (omega arith) (λ z. absurd (ne z)) (omega (arith, r .1, r .2))) ∙ ap decimal (r .1), r .2))
+    let r = from-some (b ∷ bs) 0 n (omega arith) (rw (ne-eqb b 48 ne) at e) in
+    (sym (decimal-value own (b ∷ bs) (r .0) (omega arith) (λ z. absurd (ne z)) (omega (arith, r .1, r .2))) ∙ ap decimal (r .1), r .2))
     (cases-eq b 48)
 
 plain : (ds : List ℕ) → 0 < length ds → 48 < getD ds 0 0 → numberOf ds ≡ digitsFrom 0 ds
@@ -100,8 +100,8 @@ number-decimal n h =
     ⊎-elim
     (λ z. ap (λ m. numberOf (decimal m)) z ∙ ap numberOf (decimal-digit 0 (omega arith)) ∙ ap Some (sym z))
     (λ nz.
-        let v : readOn 0 (decimal n) ≡ n = value-decimal own n (omega arith) in
-        plain (decimal n) (decimal-some n (omega arith)) (first-decimal n (omega arith) (omega arith)) ∙ to-some (decimal n) 0 (digits-decimal own n (omega arith)) (omega arith) ∙ ap Some v)
+    let v : readOn 0 (decimal n) ≡ n = value-decimal own n (omega arith) in
+    plain (decimal n) (decimal-some n (omega arith)) (first-decimal n (omega arith) (omega arith)) ∙ to-some (decimal n) 0 (digits-decimal own n (omega arith)) (omega arith) ∙ ap Some v)
     (cases-eq n 0)
 
 pub spells : (bs : List ℕ) (r : Option ℕ) → r ≡ numberOf bs → Spells bs r

@@ -36,14 +36,14 @@ first-ended n [] e h = absurd (omega arith)
 first-ended n (b ∷ bs) e h =
     ⊎-elim
     (λ is.
-        let z : n ≡ 0 = sym e ∙ here b bs is in
-        subst (λ m. linesOf (b ∷ bs) ≡ take m (b ∷ bs) ∷ linesOf (drop (suc m) (b ∷ bs))) (sym z) (rw (eq-eqb b feed is)))
+    let z : n ≡ 0 = sym e ∙ here b bs is in
+    subst (λ m. linesOf (b ∷ bs) ≡ take m (b ∷ bs) ∷ linesOf (drop (suc m) (b ∷ bs))) (sym z) (rw (eq-eqb b feed is)))
     (λ ne.
-        let m : ℕ = feedAfter bs in
-        let z : n ≡ suc m = omega (arith, later b bs ne) in
-        let lt : m < length bs = omega arith in
-        subst (λ k. linesOf (b ∷ bs) ≡ take k (b ∷ bs) ∷ linesOf (drop (suc k) (b ∷ bs))) (sym z)
-        (rw (ne-eqb b feed ne) (ap (led b) (first-ended m bs refl lt))))
+    let m : ℕ = feedAfter bs in
+    let z : n ≡ suc m = omega (arith, later b bs ne) in
+    let lt : m < length bs = omega arith in
+    subst (λ k. linesOf (b ∷ bs) ≡ take k (b ∷ bs) ∷ linesOf (drop (suc k) (b ∷ bs))) (sym z)
+    (rw (ne-eqb b feed ne) (ap (led b) (first-ended m bs refl lt))))
     (cases-eq b feed)
 
 pub first-more : (n : ℕ) (bs : List ℕ) → feedAfter bs ≡ n → n < length bs → linesOf bs ≡ take n bs ∷ linesOf (drop (n + 1) bs)
@@ -56,8 +56,8 @@ first-last (b ∷ c ∷ bs) e h =
     ⊎-elim
     (λ is. absurd (omega (arith, here b (c ∷ bs) is)))
     (λ ne.
-        let rest : linesOf (c ∷ bs) ≡ (c ∷ bs) ∷ [] = first-last (c ∷ bs) (omega (arith, later b (c ∷ bs) ne)) (omega arith) in
-        rw (ne-eqb b feed ne) (ap (led b) rest))
+    let rest : linesOf (c ∷ bs) ≡ (c ∷ bs) ∷ [] = first-last (c ∷ bs) (omega (arith, later b (c ∷ bs) ne)) (omega arith) in
+    rw (ne-eqb b feed ne) (ap (led b) rest))
     (cases-eq b feed)
 
 -- the bytes before the first line feed and those after it are a first line and the rest

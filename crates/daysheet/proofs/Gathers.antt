@@ -47,8 +47,8 @@ take-again : (n : ℕ) (xs ys : List Given) → take n (take n xs ++ ys) ≡ tak
 take-again n xs ys =
     ⊎-elim
     (λ lt.
-        let long : length (take n xs) ≡ n = length-take-le n xs (omega arith) in
-        take-append-le n (take n xs) ys (omega arith) ∙ take-take n n xs (omega arith) ∙ sym (take-append-le n xs ys (omega arith)))
+    let long : length (take n xs) ≡ n = length-take-le n xs (omega arith) in
+    take-append-le n (take n xs) ys (omega arith) ∙ take-take n n xs (omega arith) ∙ sym (take-append-le n xs ys (omega arith)))
     (λ ge. ap (λ l. take n (l ++ ys)) (take-all n xs ge))
     (cases-lt n (length xs))
 
@@ -101,10 +101,10 @@ count-kept : (end : ℕ) (form : Form) (gs : List Given) → byCount end form (t
 count-kept end form gs =
     ⊎-elim
     (λ lt.
-        let long : length (take keep gs) ≡ keep = length-take-le keep gs (omega arith) in
-        surplus end form (take keep gs) (omega arith)
-        ∙ ap (λ g. refused WrongCount (g .place)) (getD-take keep gs (most form) (given 0 0) (most-low form))
-        ∙ sym (surplus end form gs (omega arith)))
+    let long : length (take keep gs) ≡ keep = length-take-le keep gs (omega arith) in
+    surplus end form (take keep gs) (omega arith)
+    ∙ ap (λ g. refused WrongCount (g .place)) (getD-take keep gs (most form) (given 0 0) (most-low form))
+    ∙ sym (surplus end form gs (omega arith)))
     (λ ge. ap (byCount end form) (take-all keep gs ge))
     (cases-lt keep (length gs))
 

@@ -17,7 +17,11 @@ fn digits_from(sum: u32, text: &[u8]) -> Option<u32>
         [first, rest @ ..] => match class_of(*first) {
             Class::Digit => {
                 let next = sum * 10 + (*first - b'0') as u32;
-                if next > MOST { None } else { digits_from(next, rest) }
+                if next > MOST {
+                    None
+                } else {
+                    digits_from(next, rest)
+                }
             }
             _ => None,
         },

@@ -1,15 +1,15 @@
 use native.Mathlib.Omega.{arith}
-use Rattle.daysheet.proofs.Puts.{none, hex-turn, room, hex-done}
+use Rattle.daysheet.proofs.Puts.{wrote-none, hex-turn, hex-room, hex-done}
 use Rattle.daysheet.proofs.answer.put_hex.Needs as need
 
 pub loop-byte-holds : need.loop-byte-holds
-loop-byte-holds c = none (c .args .out .now) (c .args .at)
+loop-byte-holds c = wrote-none (c .args .out .now) (c .args .at)
 
 pub put-byte-end-requires : need.put-byte-end-requires
-put-byte-end-requires c κs = omega (arith, c .loop-byte .inv .len, room (c .args .bytes .now) (c .loop-byte .byte-index) (omega arith))
+put-byte-end-requires c κs = omega (arith, c .loop-byte .inv .len, hex-room (c .args .bytes .now) (c .loop-byte .byte-index) (omega arith))
 
 pub put-byte-end-requires-in-loop-byte : need.put-byte-end-requires-in-loop-byte
-put-byte-end-requires-in-loop-byte c κs = omega (arith, c .put-byte-end .ensures .len, c .loop-byte .inv .len, room (c .args .bytes .now) (c .loop-byte .byte-index) (omega arith))
+put-byte-end-requires-in-loop-byte c κs = omega (arith, c .put-byte-end .ensures .len, c .loop-byte .inv .len, hex-room (c .args .bytes .now) (c .loop-byte .byte-index) (omega arith))
 
 pub loop-byte-again : need.loop-byte-again
 loop-byte-again c =

@@ -11,5 +11,5 @@ returns c =
     let a = c .put-bytes-a .ensures .len in
     let b = c .put-number-b .ensures .within in
     let h = go-on (omega arith) (c .put-bytes-a .ensures)
-        (go-on (omega arith) (c .put-number-b .ensures .text) (go-on (omega arith) (c .put-number-c .ensures .text) (c .put-bytes .ensures))) in
+    (go-on (omega arith) (c .put-number-b .ensures .text) (go-on (omega arith) (c .put-number-c .ensures .text) (c .put-bytes .ensures))) in
     subst (λ n. Wrote (c .args .out .now) (c .put-bytes .last .out) 0 (c .put-bytes .result) (codes "no" ++ numbersText (n ∷ c .args .refusal .place ∷ []))) (c .number .ensures) h

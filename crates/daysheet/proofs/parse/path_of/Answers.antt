@@ -7,9 +7,10 @@ use Rattle.daysheet.specs.Commands.{given, valueOf}
 use Rattle.daysheet.proofs.parse.path_of.Needs as need
 
 pub loop-port-again : need.loop-port-again
-loop-port-again c =
-    (c .push .ensures .ports ∙ ap (λ l. l ++ (getD (c .args .ports .now) (c .loop-port .port-index) (given 0 0) .value ∷ [])) (c .loop-port .inv .0) ∙ sym (map-more valueOf (c .args .ports .now) (c .loop-port .port-index) (given 0 0) (c .loop-port-test .taken)),
-    omega (arith, c .push .ensures .len, c .loop-port .inv .1))
+loop-port-again c = (
+  c .push .ensures .ports ∙ ap (λ l. l ++ (getD (c .args .ports .now) (c .loop-port .port-index) (given 0 0) .value ∷ [])) (c .loop-port .inv .0) ∙ sym (map-more valueOf (c .args .ports .now) (c .loop-port .port-index) (given 0 0) (c .loop-port-test .taken)),
+  omega (arith, c .push .ensures .len, c .loop-port .inv .1),
+)
 
 pub returns : need.returns
 returns c = c .loop-port .inv .0 ∙ ap (map valueOf) (take-all (c .loop-port .port-index) (c .args .ports .now) (c .loop-port-test .left))
