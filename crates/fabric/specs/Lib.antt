@@ -4,3 +4,6 @@ pub mod Questions
 pub mod Changes
 pub mod Starting
 pub mod Reserving
+pub mod Releasing
+pub mod Shutting
+pub mod Picking

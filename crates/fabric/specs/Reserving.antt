@@ -121,5 +121,5 @@ ifAdmitted (Err e) s ps path = outcome (Err e) s ps
 ifAdmitted (Ok a) s ps path = entered a s ps path
 
 -- what a reserve answers and leaves
-abbrev pub reserved : State → List Port → ℕ → ℕ → ℕ → List ℕ → Outcome Reservation
-reserved s ps number level weight path = ifAdmitted (admitted s ps number level weight path) s ps path
+abbrev pub reserveCall : State → List Port → ℕ → ℕ → ℕ → List ℕ → Outcome Reservation
+reserveCall s ps number level weight path = ifAdmitted (admitted s ps number level weight path) s ps path

@@ -44,5 +44,5 @@ abbrev pub startedUp : Result (Unit {0}) Declined → State → List Port → Ou
 startedUp (Err e) s ps = outcome (Err e) s ps
 startedUp (Ok u) s ps = outcome (Ok tt) (freshState (length ps)) (map emptiedPort ps)
 
-abbrev pub started : State → List Port → Outcome (Unit {0})
-started s ps = startedUp (startAnswer ps) s ps
+abbrev pub startCall : State → List Port → Outcome (Unit {0})
+startCall s ps = startedUp (startAnswer ps) s ps

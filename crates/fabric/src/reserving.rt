@@ -9,7 +9,7 @@ ghost use Rattle.book.specs.Books.{filled, freeRanks};
 ghost use lib.Dec.{leb};
 ghost use Rattle.fabric.specs.States.{entries, meaning, bookAt, outcome, withBook};
 ghost use Rattle.fabric.specs.Changes.{changing, changedAt, changedAlong};
-ghost use Rattle.fabric.specs.Reserving.{isLive, laneOf, mostNumber, mostHops, askStarted, askNew, askRoom, admitted, entered, reserved};
+ghost use Rattle.fabric.specs.Reserving.{isLive, laneOf, mostNumber, mostHops, askStarted, askNew, askRoom, admitted, entered, reserveCall};
 use crate::declined::Declined;
 use crate::declined::by_fabric;
 use crate::fabric::Fabric;
@@ -163,7 +163,7 @@ impl Fabric {
         weight: u32,
         path: &[usize],
     ) -> Result<(usize, u32, usize), Declined>
-        ensures meets { λ r. ⌜ outcome r (meaning (now (self .exit))) (ports (now (bank .exit))) ≡ reserved (meaning (now (self .entry))) (ports (now (bank .entry))) number level weight (now (path .entry)) ⌝ }
+        ensures meets { λ r. ⌜ outcome r (meaning (now (self .exit))) (ports (now (bank .exit))) ≡ reserveCall (meaning (now (self .entry))) (ports (now (bank .entry))) number level weight (now (path .entry)) ⌝ }
     {
         let Admission { service, session } = self.admit(bank, number, level, weight, path)?;
         let slots = self.fill_path(bank, path, session);

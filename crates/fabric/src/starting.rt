@@ -5,7 +5,7 @@ ghost use Prim.Native.Nat.{ℕ, _<_, _≤_};
 ghost use lib.ListN.{length, set};
 ghost use Rattle.bank.specs.Ports.{portAt};
 ghost use Rattle.fabric.specs.States.{meaning, outcome};
-ghost use Rattle.fabric.specs.Starting.{unstarted, startAnswer, emptiedPort, started};
+ghost use Rattle.fabric.specs.Starting.{unstarted, startAnswer, emptiedPort, startCall};
 use crate::declined::Declined;
 use crate::declined::by_bank;
 use crate::fabric::Fabric;
@@ -67,7 +67,7 @@ impl Fabric {
 
     // Ends all sessions and empties all slots, where every port is open.
     pub fn start<B: Bank>(&mut self, bank: &mut B) -> Result<(), Declined>
-        ensures meets { λ r. ⌜ outcome r (meaning (now (self .exit))) (ports (now (bank .exit))) ≡ started (meaning (now (self .entry))) (ports (now (bank .entry))) ⌝ }
+        ensures meets { λ r. ⌜ outcome r (meaning (now (self .exit))) (ports (now (bank .exit))) ≡ startCall (meaning (now (self .entry))) (ports (now (bank .entry))) ⌝ }
     {
         ask_all_open(bank)?;
         empty_all(bank);

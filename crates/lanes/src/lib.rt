@@ -1,0 +1,2 @@
+// Lanes of a port: what they mean.
+pub mod lanes;
