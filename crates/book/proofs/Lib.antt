@@ -20,3 +20,8 @@ pub mod Numbers
 pub mod Placed
 pub mod Tested
 pub mod Counted
+pub mod Sums
+pub mod Keeping
+pub mod Pigeon
+pub mod Reversed
+pub mod Spots

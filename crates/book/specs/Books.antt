@@ -9,8 +9,8 @@ use Rattle.book.specs.Searches.{count, whenSome}
 use Rattle.book.specs.Entries.{sizeOf, levelFor, placeOf}
 use Rattle.book.specs.Sets.{isFree, lowestFree}
 use Rattle.book.specs.Moves.{releasedSet}
-pub use Rattle.book.specs.Entries.{Ranks, grantOf, fits, holds}
-pub use Rattle.book.specs.Slots.{contents, differ, changedSlots, written}
+unfoldable pub use Rattle.book.specs.Entries.{Ranks, grantOf, fits, holds}
+unfoldable pub use Rattle.book.specs.Slots.{contents, differ, changedSlots, written}
 
 -- a book of 2 ^ n ranks without sessions
 abbrev pub emptyRanks : ℕ → Ranks

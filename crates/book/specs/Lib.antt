@@ -4,6 +4,10 @@ pub mod Sets
 pub mod Moves
 pub mod Slots
 pub mod Books
+pub mod Tests
 pub mod Sound
-pub mod Levels
 pub mod Standing
+pub mod Sessions
+pub mod Even
+pub mod Laws
+pub mod Levels

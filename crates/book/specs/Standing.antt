@@ -1,20 +1,30 @@
--- What a book keeps between calls, as tests of its entries.
-use mathlib.Core.Bool.{Bool, true, _&&_}
+-- What every book keeps between calls, in words.
+use mathlib.Core.Path.{_≡_}
 use mathlib.Core.List.{List}
-use Prim.Native.Nat.{ℕ, _+_, _%_, _^_}
-use lib.Dec.{eqb, leb}
+use Prim.Native.Nat.{ℕ, _*_, _^_, _<_, _≤_}
 use lib.ListN.{getD, length}
 use Rattle.std.specs.declared.option.Option.{Option}
 use Rattle.std.specs.declared.option.Option.the-variants.{Some, None}
+use Rattle.table.specs.Slots.{mostWeight, laneCount}
 use Rattle.book.specs.declared.session.Session.{Session}
-use Rattle.book.specs.Searches.{allBelow}
-use Rattle.book.specs.Entries.{Ranks, fits}
+use Rattle.book.specs.Entries.{Ranks, sizeAt}
+use Rattle.book.specs.Sound.{Sound, Ordered, Distinct}
 
--- the session that stands at rank f is one that a book takes, and its ranks are a set of the table
-abbrev pub fitsAt : ℕ → ℕ → Option Session → Bool
-fitsAt n f None = true
-fitsAt n f (Some s) = fits n s && (eqb (f % s .size) 0 && leb (f + s .size) (2 ^ n))
+-- A session that a book of 2 ^ n ranks takes: its size is a power of two, so many slots carry its weight, and ports have its lane.
+pub record Fits (n : ℕ) (s : Session) : Type 0 where
+  pub level : ℕ
+  pub low : level ≤ n
+  pub size-is : s .size ≡ 2 ^ level
+  pub some : 1 ≤ s .weight
+  pub most : s .weight ≤ mostWeight * s .size
+  pub lane : s .lane < laneCount
 
--- so does each
-unfoldable pub allFit : ℕ → Ranks → Bool
-allFit n xs = allBelow (λ f. fitsAt n f (getD xs f None)) (length xs)
+-- A book of 2 ^ n ranks: its sessions hold disjoint sets, no number stands twice, the whole free sets differ in size, and those sizes grow from
+-- left to right.
+pub record Standing (n : ℕ) (xs : Ranks) : Type 0 where
+  pub long : length xs ≡ 2 ^ n
+  pub fit : (f : ℕ) (s : Session) → getD xs f None ≡ Some s → Fits n s
+  pub sound : Sound n (sizeAt xs)
+  pub once : (f g : ℕ) (s t : Session) → getD xs f None ≡ Some s → getD xs g None ≡ Some t → s .number ≡ t .number → f ≡ g
+  pub distinct : Distinct n (sizeAt xs)
+  pub ordered : Ordered n (sizeAt xs)

@@ -1,17 +1,17 @@
 // The calls of a book.
 ghost use mathlib.Core.Path.{_≡_};
 ghost use mathlib.Core.Bool.{false};
-ghost use Prim.Native.Nat.{ℕ, _≤_, _^_};
+ghost use Prim.Native.Nat.{ℕ, _<_, _≤_, _^_};
 ghost use lib.Dec.{leb};
 ghost use lib.ListN.{length};
 ghost use Rattle.table.specs.Slots.{bits};
 ghost use Rattle.book.specs.Entries.{levelFor, fits, isNumber, placeOf};
-ghost use Rattle.book.specs.Books.{emptyRanks, freeRanks, lowestFirst, placeFor, filled, holds, contents};
+ghost use Rattle.book.specs.Books.{emptyRanks, freeRanks, lowestFirst, placeFor, filled, releasedAt, released, holds, contents};
+ghost use Rattle.book.specs.Standing.{Standing};
+ghost use Rattle.book.specs.Laws.{FillLaw, Ended};
 use crate::book::Book;
-use crate::ranks::first_of;
-use crate::ranks::free_ranks;
-use crate::ranks::lowest;
-use crate::ranks::size_of;
+use crate::moves::release_set;
+use crate::ranks::{first_of, free_ranks, lowest, size_at, size_of};
 use crate::session::Session;
 use crate::slots::slots_of;
 use table::rank::BITS;
@@ -92,6 +92,19 @@ fn place_for(book: &[Option<Session>], levels: u32, session: Session) -> Option<
     lowest_first(book, levels, session.size as usize)
 }
 
+// Ends the session at a rank.
+fn release_at(book: &mut [Option<Session>], levels: u32, at: usize)
+    requires top { ⌜ levels ≤ 6 ⌝ }
+    requires stands { ⌜ Standing levels (now book) ⌝ }
+    requires there { ⌜ at < length (now book) ⌝ }
+    ensures { λ _. ⌜ now (book .exit) ≡ releasedAt levels (now (book .entry)) at ⌝ }
+{
+    match level_of(levels, size_at(book, at)) {
+        Some(level) => release_set(book, levels, level, at),
+        None => {}
+    }
+}
+
 impl Book {
     // A book without sessions.
     pub fn new() -> Book
@@ -118,6 +131,7 @@ impl Book {
     pub fn fill_in(&mut self, session: Session) -> Option<usize>
         ensures place { λ r. ⌜ r ≡ placeFor bits (now (self .entry) .ranks) session ⌝ }
         ensures after { λ _. ⌜ now (self .exit) .ranks ≡ filled bits (now (self .entry) .ranks) session ⌝ }
+        ensures law { λ r. ⌜ FillLaw bits (now (self .entry) .ranks) session r (now (self .exit) .ranks) ⌝ }
     {
         match place_for(&self.ranks, BITS, session) {
             Some(first) => {
@@ -125,6 +139,21 @@ impl Book {
                 Some(first)
             }
             None => None,
+        }
+    }
+
+    // Ends the session of this number, and moves others until the free sets are in order again. Answers whether the book had it.
+    pub fn release(&mut self, number: u16) -> bool
+        ensures value { λ r. ⌜ r ≡ holds number (now (self .entry) .ranks) ⌝ }
+        ensures after { λ _. ⌜ now (self .exit) .ranks ≡ released bits (now (self .entry) .ranks) number ⌝ }
+        ensures law { λ _. ⌜ Ended bits (now (self .entry) .ranks) number (now (self .exit) .ranks) ⌝ }
+    {
+        match find(&self.ranks, number) {
+            Some(first) => {
+                release_at(&mut self.ranks, BITS, first);
+                true
+            }
+            None => false,
         }
     }
 

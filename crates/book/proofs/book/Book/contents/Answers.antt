@@ -1,9 +1,10 @@
 use native.Mathlib.Omega.{arith}
 use Rattle.table.specs.Slots.{bits}
 use Rattle.book.proofs.Tested.{all-carried}
+use Rattle.book.proofs.Keeping.{book-stands}
 use Rattle.book.proofs.book.Book.contents.Needs as need
 
 pub slots-of-requires : need.slots-of-requires
 slots-of-requires c κs =
     let b = c .args .self .now in
-    record { long = omega (arith, b .long); carried = all-carried bits (b .ranks) (b .fit) }
+    record { long = omega (arith, b .long); carried = all-carried bits (b .ranks) (book-stands b) }
