@@ -53,7 +53,7 @@ weight-most g m w pos le = div-le-of-le-mul m {m = g} {n = w} (omega arith)
 
 pub weight-more : (g m w r : ℕ) → 0 < m → g ≤ w * m → r < g % m → g / m + 1 ≤ w
 weight-more g m w r pos le some =
-    elim (cases-lt g (w * m)) [
-      | inl l ↦ omega (arith, div-lt-iff-lt-mul {k = m} {x = g} {y = w} pos .1 l)
-      | inr l ↦ absurd (omega (arith, ap (λ y. y % m) {x = g} {y = w * m + 0} (omega arith) ∙ mod-mul-add w m 0 pos))
-    ]
+    elim (cases-lt g (w * m))
+        [ inl l ↦ omega (arith, div-lt-iff-lt-mul {k = m} {x = g} {y = w} pos .1 l)
+        | inr l ↦ absurd (omega (arith, ap (λ y. y % m) {x = g} {y = w * m + 0} (omega arith) ∙ mod-mul-add w m 0 pos))
+        ]

@@ -35,10 +35,10 @@ module _ (xs : Ranks) (f r : ℕ) (l : f < length xs) where
   pub holder-skip : (r < f) ⊎ (f + sizeAt xs f ≤ r) → holderFrom f (drop f xs) r ≡ holderFrom (f + 1) (drop (f + 1) xs) r
   holder-skip h =
       let e : suc f ≡ f + 1 = omega arith in
-      let z : here ≡ false = elim h [
-        | inl a ↦ and-left (leb f r) (ltb r (f + sizeAt xs f)) (lt-leb f r a)
-        | inr a ↦ and-right (leb f r) (ltb r (f + sizeAt xs f)) (le-ltb r (f + sizeAt xs f) a)
-      ] in
+      let z : here ≡ false = elim h
+          [ inl a ↦ and-left (leb f r) (ltb r (f + sizeAt xs f)) (lt-leb f r a)
+          | inr a ↦ and-right (leb f r) (ltb r (f + sizeAt xs f)) (le-ltb r (f + sizeAt xs f) a)
+          ] in
       opened ∙ cond-false here (getD xs f None) (holderFrom (suc f) (drop (f + 1) xs) r) z ∙ ap (λ k. holderFrom k (drop (f + 1) xs) r) e
 
 pub holder-end : (xs : Ranks) (f r : ℕ) → length xs ≤ f → holderFrom f (drop f xs) r ≡ None
@@ -51,10 +51,10 @@ module _ (n : ℕ) (xs : Ranks) where
       → r ≡ reversed n z → o ≡ holderFrom 0 xs r → s ≡ slotFor r o
       → (length (set table z s) ≡ 2 ^ n) × ((k : ℕ) → k < z + 1 → getD (set table z s) k emptySlot ≡ slotIn n xs k)
   slots-more table z r o s l inv a b c =
-      let e : s ≡ slotIn n xs z = c ∙ ap (slotFor r) b ∙ ap (λ y. slotFor y (holderFrom 0 xs y)) a in (
-        length-set table z s ∙ inv .0,
-        subst (λ y. (k : ℕ) → k < z + 1 → getD (set table z y) k emptySlot ≡ slotIn n xs k) (sym e)
-            (fill-by-more (slotIn n xs) table z emptySlot (omega (arith, inv .0)) (inv .1)),
+      let e : s ≡ slotIn n xs z = c ∙ ap (slotFor r) b ∙ ap (λ y. slotFor y (holderFrom 0 xs y)) a in
+      ( length-set table z s ∙ inv .0
+      , subst (λ y. (k : ℕ) → k < z + 1 → getD (set table z y) k emptySlot ≡ slotIn n xs k) (sym e)
+          (fill-by-more (slotIn n xs) table z emptySlot (omega (arith, inv .0)) (inv .1))
       )
 
   pub slots-all : (table : List Slot) (z : ℕ) → 2 ^ n ≤ z → (length table ≡ 2 ^ n) × ((k : ℕ) → k < z → getD table k emptySlot ≡ slotIn n xs k) → table ≡ contents n xs

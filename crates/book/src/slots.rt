@@ -9,8 +9,7 @@ ghost use Rattle.book.specs.Entries.{grantOf};
 ghost use Rattle.book.specs.Slots.{holderFrom, slotFor, carried, contents, changedSlots};
 use crate::ranks::size_at;
 use crate::session::Session;
-use table::rank::SLOTS;
-use table::rank::reverse;
+use table::rank::{reverse, SLOTS};
 use table::slot::Slot;
 
 // The session that holds a rank.
@@ -56,10 +55,7 @@ fn slot_for(rank: usize, held: Option<Session>) -> Slot
     ensures { λ r. ⌜ r ≡ slotFor rank held ⌝ }
 {
     match held {
-        Some(s) => Slot {
-            lane: s.lane,
-            weight: weight_at(grant_of(s), s.size as u32, rank),
-        },
+        Some(s) => Slot { lane: s.lane, weight: weight_at(grant_of(s), s.size as u32, rank) },
         None => Slot::empty(),
     }
 }
