@@ -4,6 +4,7 @@ pub mod Ports
 pub mod Emptying
 pub mod Starts
 pub mod Books
-pub mod Changing
+pub mod Along
 pub mod Paths
 pub mod Reserves
+pub mod Releases

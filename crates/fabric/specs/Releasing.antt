@@ -11,9 +11,9 @@ use Rattle.bank.specs.Ports.{portAt}
 use Rattle.book.specs.Books.{Ranks, holds, released}
 use Rattle.fabric.specs.declared.declined.Declined.{Declined}
 use Rattle.fabric.specs.Declines.{byFabric, byBank}
-use Rattle.fabric.specs.States.{State, Outcome, outcome}
+use Rattle.fabric.specs.States.{State, bookAt, Outcome, outcome}
 use Rattle.fabric.specs.Questions.{ask, askEach, andThen}
-use Rattle.fabric.specs.Changes.{changing, changedAlong}
+use Rattle.fabric.specs.Changes.{Change, changing, changedAt, changedAlong}
 use Rattle.fabric.specs.Reserving.{isLive, askStarted, askNumber}
 
 -- is the number live?
@@ -40,6 +40,10 @@ releaseAnswer s ps number =
 abbrev pub holders : ℕ → ℕ → List Ranks → List ℕ
 holders number p [] = []
 holders number p (b ∷ books) = cond (holds number b) (p ∷ holders number (p + 1) books) (holders number (p + 1) books)
+
+-- at port p the session ends, if the book holds it
+abbrev pub releasedAt : ℕ → ℕ → Change → Change
+releasedAt number p c = cond (holds number (bookAt (c .state .books) p)) (changedAt (λ b. released bits b number) p c) c
 
 -- at each port that holds it the session ends, and others move; answered is how many slots changed over all ports
 abbrev pub ended : State → List Port → ℕ → Outcome ℕ

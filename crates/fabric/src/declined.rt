@@ -1,5 +1,5 @@
 ghost use mathlib.Core.Path.{_≡_};
-ghost use Rattle.fabric.specs.Declines.{byFabric, byBank};
+ghost use Rattle.fabric.specs.Declines.{byFabric, byBank, handedOn};
 use table::refusal::Layer;
 use table::refusal::Reason;
 use table::refusal::Refusal;
@@ -33,4 +33,11 @@ pub(crate) fn by_bank(reason: Reason, place: usize) -> Declined
         layer: Layer::Bank,
     };
     Declined { refusal, place }
+}
+
+// A refusal handed on by a question that names no place.
+pub(crate) fn handed_on(refusal: Refusal) -> Declined
+    ensures { λ r. ⌜ r ≡ handedOn refusal ⌝ }
+{
+    Declined { refusal, place: 0 }
 }

@@ -3,17 +3,17 @@ ghost use mathlib.Core.Path.{_≡_};
 ghost use Prim.Native.Nat.{ℕ, _<_, _≤_, _+_, _*_};
 ghost use mathlib.Core.List.{map};
 ghost use lib.ListN.{length, getD, set};
-ghost use Rattle.table.specs.Slots.{bits, slots, laneCount};
+ghost use Rattle.table.specs.Slots.{bits, laneCount};
 ghost use Rattle.bank.specs.Ports.{mostPorts};
 ghost use Rattle.book.specs.Books.{filled, freeRanks};
 ghost use lib.Dec.{leb};
-ghost use Rattle.fabric.specs.States.{entries, meaning, bookAt, outcome, withBook};
-ghost use Rattle.fabric.specs.Changes.{changing, changedAt, changedAlong};
+ghost use Rattle.fabric.specs.States.{entries, meaning, bookAt, outcome};
+ghost use Rattle.fabric.specs.Changes.{changing, changedAlong};
 ghost use Rattle.fabric.specs.Reserving.{isLive, laneOf, mostNumber, mostHops, askStarted, askNew, askRoom, admitted, entered, reserveCall};
 use crate::declined::Declined;
 use crate::declined::by_fabric;
 use crate::fabric::Fabric;
-use crate::program::program;
+use crate::book_change::BookChange;
 use crate::questions::Admission;
 use crate::questions::ask_number;
 use crate::questions::ask_open;
@@ -121,26 +121,6 @@ impl Fabric {
         Ok(Admission { service, session })
     }
 
-    // The session goes onto the lowest free set of its size in the book of a port.
-    fn fill_book(&mut self, port: usize, session: Session)
-        requires { ⌜ port < mostPorts ⌝ }
-        ensures { λ _. ⌜ meaning (now (self .exit)) ≡ withBook (meaning (now (self .entry))) port (filled bits (bookAt (meaning (now (self .entry)) .books) port) session) ⌝ }
-    {
-        let _ = self.books[port].fill_in(session);
-    }
-
-    // At one port the session is filled in, and just the slots that change are written. Answers how many.
-    fn fill_at<B: Bank>(&mut self, bank: &mut B, port: usize, session: Session) -> usize
-        requires { ⌜ port < mostPorts ⌝ }
-        ensures meets { λ r. ⌜ changing r (meaning (now (self .exit))) (ports (now (bank .exit))) ≡ changedAt (λ b. filled bits b session) port (changing 0 (meaning (now (self .entry))) (ports (now (bank .entry)))) ⌝ }
-        ensures most { λ r. ⌜ r ≤ slots ⌝ }
-    {
-        let old = self.contents_at(port);
-        self.fill_book(port, session);
-        let new = self.contents_at(port);
-        program(bank, port, &old, &new)
-    }
-
     // The session is filled in at each port of the path. Answers how many slots changed.
     fn fill_path<B: Bank>(&mut self, bank: &mut B, path: &[usize], session: Session) -> usize
         requires hops { ⌜ length (now path) ≤ mostHops ⌝ }
@@ -149,7 +129,7 @@ impl Fabric {
     {
         let mut slots = 0;
         for hop in 0..path.len() {
-            slots += self.fill_at(bank, path[hop], session);
+            slots += self.change_at(bank, path[hop], BookChange::FillIn(session));
         }
         slots
     }
