@@ -1,0 +1,4 @@
+pub mod Turns
+pub mod Packets
+pub mod Held
+pub mod Records

@@ -7,9 +7,6 @@ use table::refusal::Refusal;
 // A port carries so many lanes, numbered from 0.
 pub const LANES: u8 = 15;
 
-// A packet has at most so many bytes.
-pub const MOST_BYTES: u16 = 4096;
-
 // The lanes of one port. The lane is asked first, and then, for a take, that a packet waits. A refusal changes nothing.
 pub trait Lanes {
     // For each lane the lengths of the packets that wait in it, the first first: all that lanes mean.
