@@ -7,7 +7,7 @@ use lib.Chars.{codes}
 use lib.Dec.{ltb}
 use lib.ListN.{length, take, drop}
 use Rattle.std.specs.Written.{decimal}
-use Rattle.table.specs.declared.refusal.Refusal.{Refusal}
+use Rattle.table.specs.declared.refusal.Reason.{Reason}
 use Rattle.table.specs.Refusals.{numberOf}
 
 -- a buffer with bytes written from a place on, and the rest as it was
@@ -41,6 +41,6 @@ hexText (b ∷ bs) = hexDigit (b / 16) ∷ hexDigit (b % 16) ∷ hexText bs
 abbrev pub imageText : List ℕ → List ℕ
 imageText bs = codes "ok " ++ (hexText bs ++ codes "\n")
 
--- the line of a refusal: its number and its place
-abbrev pub noText : Refusal → List ℕ
-noText r = codes "no" ++ numbersText (numberOf (r .reason) ∷ r .place ∷ [])
+-- the line of a refusal: its number and the place that its question names
+abbrev pub noText : Reason → ℕ → List ℕ
+noText reason place = codes "no" ++ numbersText (numberOf reason ∷ place ∷ [])

@@ -10,3 +10,5 @@ pub mod Gathered
 pub mod Answers
 pub mod Lines
 pub mod Feed
+pub mod Replies
+pub mod Sheets

@@ -6,7 +6,7 @@ ghost use lib.ListN.{length};
 ghost use Rattle.std.specs.Written.{decimal};
 ghost use Rattle.daysheet.specs.Sizes.{answerBytes};
 ghost use Rattle.daysheet.specs.Answers.{Wrote, okText, hexDigit, hexText, imageText, noText};
-use table::refusal::Refusal;
+use table::refusal::Reason;
 
 // The bytes of a buffer for an answer line: `ok `, the hexadecimal digits of an image and the line's end.
 pub const ANSWER: usize = 3 + 2 * IMAGE + 1;
@@ -106,11 +106,11 @@ pub fn write_ok_image(out: &mut [u8; ANSWER], image: &[u8; IMAGE]) -> usize
     put_bytes(out, b, b"\n")
 }
 
-pub fn write_no(out: &mut [u8; ANSWER], refusal: Refusal) -> usize
-    ensures { λ r. ⌜ Wrote (now (out .entry)) (now (out .exit)) 0 r (noText refusal) ⌝ }
+pub fn write_no(out: &mut [u8; ANSWER], reason: Reason, place: usize) -> usize
+    ensures { λ r. ⌜ Wrote (now (out .entry)) (now (out .exit)) 0 r (noText reason place) ⌝ }
 {
     let a = put_bytes(out, 0, b"no");
-    let b = put_number(out, a, refusal.reason.number() as usize);
-    let c = put_number(out, b, refusal.place);
+    let b = put_number(out, a, reason.number() as usize);
+    let c = put_number(out, b, place);
     put_bytes(out, c, b"\n")
 }

@@ -13,3 +13,6 @@ mod numbers;
 pub mod parse;
 pub mod path;
 mod refuse;
+pub mod reply;
+pub mod sheet;
+pub mod answering;

@@ -12,4 +12,4 @@ returns c =
     let b = c .put-number-b .ensures .within in
     let h = go-on (omega arith) (c .put-bytes-a .ensures)
     (go-on (omega arith) (c .put-number-b .ensures .text) (go-on (omega arith) (c .put-number-c .ensures .text) (c .put-bytes .ensures))) in
-    subst (λ n. Wrote (c .args .out .now) (c .put-bytes .last .out) 0 (c .put-bytes .result) (codes "no" ++ numbersText (n ∷ c .args .refusal .place ∷ []))) (c .number .ensures) h
+    subst (λ n. Wrote (c .args .out .now) (c .put-bytes .last .out) 0 (c .put-bytes .result) (codes "no" ++ numbersText (n ∷ c .args .place ∷ []))) (c .number .ensures) h

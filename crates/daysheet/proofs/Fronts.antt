@@ -1,0 +1,47 @@
+-- An answer read back from the front of its buffer, and added to those before it.
+use mathlib.Core.Path.{_≡_, refl, sym, ap, subst, _∙_}
+use mathlib.Core.List.{List, [], _∷_, _++_, append-nil, append-assoc}
+use Prim.Native.Nat.{ℕ, _+_, _≤_, _<_}
+use native.Mathlib.Omega.{arith}
+use lib.ListN.{length, take, drop, length-append}
+use Rattle.std.specs.Vec.{made}
+use Rattle.std.specs.declared.result.Result.{Result}
+use Rattle.std.specs.declared.result.Result.the-variants.{Ok, Err}
+use Rattle.std.proofs.shelf.Lists.{take-at}
+use Rattle.bank.specs.declared.port.Port.{Port}
+use Rattle.fabric.specs.States.{State}
+use Rattle.daysheet.specs.Answers.{Wrote, noText}
+use Rattle.table.specs.declared.refusal.Reason.the-variants.{LongInput}
+use Rattle.std.proofs.shelf.Tests.{lt-leb}
+use Rattle.daysheet.specs.Replies.{obeyed, answerText}
+use Rattle.daysheet.specs.Sheets.{answersFrom, mostBytes, sheetText}
+
+module _ (was new : List ℕ) (n : ℕ) (bs : List ℕ) (w : Wrote was new 0 n bs) where
+  pub front-within : n ≤ length new
+  front-within = omega (arith, w .len, ap length (w .after) ∙ length-append bs (drop (0 + length bs) was))
+
+  pub front : take n new ≡ bs
+  front = ap (take n) (w .after) ∙ take-at bs (drop (0 + length bs) was) n (omega (arith, w .len))
+
+-- what holds of a value that was made, in other words
+pub made-as : {A E : Type 0} (r : Result A E) (P Q : A → Type 0) → ((x : A) → P x → Q x) → made r P → made r Q
+made-as (Ok x) P Q f p = f x p
+made-as (Err e) P Q f p = tt
+
+-- one more line answered
+pub line-more : (s t : State) (ps qs : List Port) (line : List ℕ) (before after whole : List ℕ) (lines left : List (List ℕ))
+    → before ++ answersFrom s ps lines ≡ whole → lines ≡ line ∷ left → after ≡ before ++ answerText (obeyed s ps line .answer)
+    → t ≡ obeyed s ps line .state → qs ≡ obeyed s ps line .ports → after ++ answersFrom t qs left ≡ whole
+line-more s t ps qs line before after whole lines left inv is added state ports =
+    (λ i. added i ++ answersFrom (state i) (ports i) left)
+    ∙ append-assoc before (answerText (obeyed s ps line .answer)) (answersFrom (obeyed s ps line .state) (obeyed s ps line .ports) left)
+    ∙ ap (λ ls. before ++ answersFrom s ps ls) (sym is)
+    ∙ inv
+
+-- all lines answered
+pub line-all : (s : State) (ps : List Port) (before whole : List ℕ) (lines : List (List ℕ)) → before ++ answersFrom s ps lines ≡ whole → lines ≡ [] → before ≡ whole
+line-all s ps before whole lines inv is = sym (append-nil before) ∙ ap (λ ls. before ++ answersFrom s ps ls) (sym is) ∙ inv
+
+-- a sheet that is too long
+pub too-long : (input : List ℕ) → mostBytes < length input → noText LongInput 0 ≡ sheetText input
+too-long input long = let w = lt-leb (length input) mostBytes long in simp w

@@ -1,0 +1,13 @@
+use mathlib.Core.Path.{_≡_}
+use mathlib.Core.List.{_++_}
+use Rattle.std.specs.Of.Vec.{vec-items}
+use Rattle.fabric.specs.States.{meaning}
+use Rattle.daysheet.specs.Feed.{linesLeft}
+use Rattle.daysheet.specs.Sheets.{answersFrom}
+use Rattle.daysheet.proofs.sheet.answer_lines.Given as given
+
+-- what is answered so far, and the lines to come answered from here, are the whole
+abbrev pub Inv-loop-line : given.InvT-loop-line
+Inv-loop-line g l =
+    vec-items (l .answers) ++ answersFrom (meaning (l .fabric)) (g .B·Bank .ports (l .bank)) (linesLeft (l .line-iterator))
+    ≡ answersFrom (meaning (l .entry .fabric)) (g .B·Bank .ports (l .entry .bank)) (linesLeft (l .entry .line-iterator))

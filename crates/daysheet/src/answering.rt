@@ -1,0 +1,105 @@
+// The answer to a line: its command is carried out, and the answer line written into a lent buffer.
+ghost use mathlib.Core.Path.{_≡_};
+ghost use Rattle.fabric.specs.States.{meaning, outcome};
+ghost use Rattle.daysheet.specs.Told.{askedBy};
+ghost use Rattle.daysheet.specs.Answers.{Wrote};
+ghost use Rattle.daysheet.specs.Replies.{tableAnswer, acted, obeyed, saidText, lineRefusal, Responds, Answers};
+use crate::answer::ANSWER;
+use crate::answer::IMAGE;
+use crate::answer::write_no;
+use crate::answer::write_ok;
+use crate::answer::write_ok_image;
+use crate::answer::write_ok_one;
+use crate::answer::write_ok_three;
+use crate::command::Command;
+use crate::parse::parse;
+use crate::reply::LineRefusal;
+use crate::reply::Reply;
+use crate::reply::Said;
+use bank::bank::Bank;
+use bank::image::write_image;
+use fabric::declined::Declined;
+use fabric::fabric::Fabric;
+
+// The image of a port's table.
+fn tell_table<B: Bank>(bank: &B, port: usize) -> Result<Said, Declined>
+    ensures { λ r. ⌜ r ≡ tableAnswer (ports (now (bank .entry))) port ⌝ }
+{
+    let mut image = [0u8; IMAGE];
+    match write_image(bank, port, &mut image) {
+        Ok(()) => Ok(Said::Image(image)),
+        Err(refusal) => Err(Declined { refusal, place: 0 }),
+    }
+}
+
+// Carries out a command.
+fn act<B: Bank>(fabric: &mut Fabric, bank: &mut B, command: &Command) -> Result<Said, Declined>
+    ensures { λ r. ⌜ outcome r (meaning (now (fabric .exit))) (ports (now (bank .exit))) ≡ acted (meaning (now (fabric .entry))) (ports (now (bank .entry))) (askedBy (now (command .entry))) ⌝ }
+{
+    match command {
+        Command::Reserve { number, level, weight, path } => {
+            let (spacing, grant, slots) = fabric.reserve(bank, *number, *level, *weight, path.as_slice())?;
+            Ok(Said::Reserved(spacing, grant, slots))
+        }
+        Command::Release(number) => Ok(Said::Released(fabric.release(bank, *number)?)),
+        Command::Shut(port) => {
+            fabric.shut(bank, *port)?;
+            Ok(Said::Nothing)
+        }
+        Command::Reopen(port) => {
+            fabric.reopen(bank, *port)?;
+            Ok(Said::Nothing)
+        }
+        Command::Table(port) => tell_table(bank, *port),
+    }
+}
+
+// Carries out a line's command, or refuses the line.
+fn obey<B: Bank>(fabric: &mut Fabric, bank: &mut B, line: &[u8]) -> Result<Said, Declined>
+    ensures { λ r. ⌜ outcome r (meaning (now (fabric .exit))) (ports (now (bank .exit))) ≡ obeyed (meaning (now (fabric .entry))) (ports (now (bank .entry))) (now (line .entry)) ⌝ }
+{
+    match parse(line) {
+        Ok(command) => act(fabric, bank, &command),
+        Err(refusal) => Err(Declined { refusal, place: refusal.place }),
+    }
+}
+
+// Writes the answer of an accepted line.
+fn write_said(out: &mut [u8; ANSWER], said: &Said) -> usize
+    ensures { λ r. ⌜ Wrote (now (out .entry)) (now (out .exit)) 0 r (saidText (now (said .entry))) ⌝ }
+{
+    match said {
+        Said::Nothing => write_ok(out),
+        Said::Released(slots) => write_ok_one(out, *slots),
+        Said::Reserved(spacing, grant, slots) => write_ok_three(out, *spacing, *grant as usize, *slots),
+        Said::Image(image) => write_ok_image(out, image),
+    }
+}
+
+// Answers a line: its answer stands at the front of the buffer, whose rest stays as it was. Answers how many bytes it has, or the refusal with them.
+pub(crate) fn respond<B: Bank>(fabric: &mut Fabric, bank: &mut B, line: &[u8], out: &mut [u8; ANSWER]) -> (usize, Option<Declined>)
+    ensures { λ r. ⌜ Responds (obeyed (meaning (now (fabric .entry))) (ports (now (bank .entry))) (now (line .entry))) (now (out .entry)) (now (out .exit)) (r .0) (r .1) (meaning (now (fabric .exit))) (ports (now (bank .exit))) ⌝ }
+{
+    match obey(fabric, bank, line) {
+        Ok(said) => (write_said(out, &said), None),
+        Err(declined) => (write_no(out, declined.refusal.reason, declined.place), Some(declined)),
+    }
+}
+
+// Answers line `number` of a sheet, and notes the line's number beside a refusal.
+pub fn answer_line<B: Bank>(fabric: &mut Fabric, bank: &mut B, number: usize, line: &[u8], out: &mut [u8; ANSWER]) -> Reply
+    ensures { λ r. ⌜ Answers number (obeyed (meaning (now (fabric .entry))) (ports (now (bank .entry))) (now (line .entry))) (now (out .entry)) (now (out .exit)) r (meaning (now (fabric .exit))) (ports (now (bank .exit))) ⌝ }
+{
+    let (bytes, declined) = respond(fabric, bank, line, out);
+    Reply { bytes, refused: noted(number, declined) }
+}
+
+// A refusal with the line's number beside it.
+fn noted(number: usize, declined: Option<Declined>) -> Option<LineRefusal>
+    ensures { λ r. ⌜ r ≡ lineRefusal number declined ⌝ }
+{
+    match declined {
+        Some(d) => Some(LineRefusal { refusal: d.refusal, place: d.place, line: number }),
+        None => None,
+    }
+}
