@@ -3,13 +3,9 @@ use mathlib.Core.Path.{_≡_, refl, sym, ap, subst, _∙_}
 use mathlib.Core.Bool.{Bool, true, false, cond, not}
 use mathlib.Core.List.{List, [], _∷_}
 use Prim.Native.Nat.{ℕ, zero, suc, _+_, _*_, _/_, _%_, _<_, _≤_}
-use native.Mathlib.Nat.{div-lt-iff-lt-mul, div-le-of-le-mul}
 use native.Mathlib.Omega.{arith}
-use mathlib.Core.Logic.{_⊎_, inl, inr}
 use lib.ListN.{length, getD, drop}
-use Rattle.std.proofs.shelf.Bits.{mod-mul-add}
 use Rattle.std.proofs.shelf.Lists.{at-drop-more, at-drop-all}
-use Rattle.std.proofs.shelf.Tests.{cases-lt}
 use Rattle.table.specs.declared.slot.Slot.{Slot}
 use Rattle.table.specs.Slots.{emptySlot, sameSlot}
 use Rattle.book.specs.Searches.{count}
@@ -46,14 +42,3 @@ changed-none old new i c l m t e =
 pub changed-end : (old new : List Slot) (i c : ℕ) → length old ≤ i → c + changedSlots (drop i old) (drop i new) ≡ changedSlots old new → c ≡ changedSlots old new
 unfolding changedSlots
 changed-end old new i c l e = omega (arith, e, at-drop-all (λ xs. changedSlots xs (drop i new)) old i l)
-
--- the weights of ranks
-pub weight-most : (g m w : ℕ) → 0 < m → g ≤ w * m → g / m ≤ w
-weight-most g m w pos le = div-le-of-le-mul m {m = g} {n = w} (omega arith)
-
-pub weight-more : (g m w r : ℕ) → 0 < m → g ≤ w * m → r < g % m → g / m + 1 ≤ w
-weight-more g m w r pos le some =
-    elim (cases-lt g (w * m))
-        [ inl l ↦ omega (arith, div-lt-iff-lt-mul {k = m} {x = g} {y = w} pos .1 l)
-        | inr l ↦ absurd (omega (arith, ap (λ y. y % m) {x = g} {y = w * m + 0} (omega arith) ∙ mod-mul-add w m 0 pos))
-        ]

@@ -1,3 +1,4 @@
+-- How many sets are free at each level: where whole free sets differ in size, so many free ranks give a free set.
 use mathlib.Core.Path.{_≡_, refl, sym, ap, subst, _∙_}
 use mathlib.Core.Logic.{_⊎_, inl, inr, _≢_}
 use mathlib.Core.Bool.{Bool, true, false, cond, _&&_}
@@ -53,23 +54,23 @@ count-pairs g (suc m) (suc (suc k)) e =
 pub count-none : (g : ℕ → Bool) (m : ℕ) → ((a : ℕ) → a < m → g a ≡ true → ⊥) → count g m ≡ 0
 count-none g zero h = refl
 count-none g (suc m) h =
-    elim (cases-bool (g m))
-        [ inl e ↦ absurd (h m (omega arith) e)
-        | inr e ↦ ap (λ b. cond b 1 0 + count g m) e ∙ omega (arith, count-none g m (λ a l. h a (omega arith)))
-        ]
+    elim (cases-bool (g m)) [
+      | inl e ↦ absurd (h m (omega arith) e)
+      | inr e ↦ ap (λ b. cond b 1 0 + count g m) e ∙ omega (arith, count-none g m (λ a l. h a (omega arith)))
+    ]
 
 pub count-one : (g : ℕ → Bool) (m : ℕ) → ((a b : ℕ) → g a ≡ true → g b ≡ true → a ≡ b) → count g m ≤ 1
 count-one g zero h = omega arith
 count-one g (suc m) h =
-    elim (cases-bool (g m))
-        [ inl e ↦
-            let k = count-none g m (λ a l z. let y = h a m z e in omega arith) in
-            let c = ap (λ b. cond {A = ℕ} b 1 0) e in
-            omega (arith, k, c)
-        | inr e ↦
-            let c = ap (λ b. cond {A = ℕ} b 1 0) e in
-            omega (arith, c, count-one g m h)
-        ]
+    elim (cases-bool (g m)) [
+      | inl e ↦
+          let k = count-none g m (λ a l z. let y = h a m z e in omega arith) in
+          let c = ap (λ b. cond {A = ℕ} b 1 0) e in
+          omega (arith, k, c)
+      | inr e ↦
+          let c = ap (λ b. cond {A = ℕ} b 1 0) e in
+          omega (arith, c, count-one g m h)
+    ]
 
 lone-cases : (x y : Bool) → cond x (cond y false true) y ≡ true → ((x ≡ true) × (y ≡ false)) ⊎ ((x ≡ false) × (y ≡ true))
 lone-cases true true h = absurd (both-ways false refl h)
@@ -80,16 +81,26 @@ lone-cases false false h = absurd (both-ways false refl h)
 -- a pair of which one is free has a whole set
 lone-whole : (f : ℕ → Bool) (i q : ℕ) → lone (freeb f i) q ≡ true → (a : ℕ) × (a / 2 ≡ q) × Whole (Is f) i a
 lone-whole f i q h =
-    elim (lone-cases (freeb f i (2 * q)) (freeb f i (2 * q + 1)) h)
-        [ inl k ↦
-            let e : 2 * q / 2 ≡ q = omega arith in
-            (2 * q, e, (free-true f i (2 * q) (k .0)
-              , λ w. both-ways (freeb f i (2 * q + 1)) (k .1) (true-free f i (2 * q + 1) ((subst (Free (Is f) (suc i)) e w) .1))))
-        | inr k ↦
-            let e : (2 * q + 1) / 2 ≡ q = omega arith in
-            (2 * q + 1, e, (free-true f i (2 * q + 1) (k .1)
-              , λ w. both-ways (freeb f i (2 * q)) (k .0) (true-free f i (2 * q) ((subst (Free (Is f) (suc i)) e w) .0))))
-        ]
+    elim (lone-cases (freeb f i (2 * q)) (freeb f i (2 * q + 1)) h) [
+      | inl k ↦
+          let e : 2 * q / 2 ≡ q = omega arith in (
+            2 * q,
+            e,
+            (
+              free-true f i (2 * q) (k .0),
+              λ w. both-ways (freeb f i (2 * q + 1)) (k .1) (true-free f i (2 * q + 1) ((subst (Free (Is f) (suc i)) e w) .1)),
+            ),
+          )
+      | inr k ↦
+          let e : (2 * q + 1) / 2 ≡ q = omega arith in (
+            2 * q + 1,
+            e,
+            (
+              free-true f i (2 * q + 1) (k .1),
+              λ w. both-ways (freeb f i (2 * q)) (k .0) (true-free f i (2 * q) ((subst (Free (Is f) (suc i)) e w) .0)),
+            ),
+          )
+    ]
 
 pub dbl-mono : (i a b : ℕ) → a ≤ b → dbl i a ≤ dbl i b
 dbl-mono zero a b h = h
@@ -102,30 +113,30 @@ dbl-pow (suc i) a = dbl-pow i (2 * a) ∙ ap (λ x. x * 2 ^ i) (mul-comm 2 a) �
 pub count-some : (g : ℕ → Bool) (m q : ℕ) → q < m → g q ≡ true → 1 ≤ count g m
 count-some g zero q l h = absurd (omega arith)
 count-some g (suc m) q l h =
-    elim (cases-eq q m)
-        [ inl e ↦ let c = ap (λ x. cond {A = ℕ} (g x) 1 0) (sym e) ∙ ap (λ b. cond {A = ℕ} b 1 0) h in omega (arith, c)
-        | inr n ↦ omega (arith, count-some g m q (omega arith) h)
-        ]
+    elim (cases-eq q m) [
+      | inl e ↦ let c = ap (λ x. cond {A = ℕ} (g x) 1 0) (sym e) ∙ ap (λ b. cond {A = ℕ} b 1 0) h in omega (arith, c)
+      | inr n ↦ omega (arith, count-some g m q (omega arith) h)
+    ]
 
 pub first-true : (g : ℕ → Bool) (m : ℕ) → 0 < count g m → (q : ℕ) × (q < m) × (g q ≡ true) × ((a : ℕ) → a < q → g a ≡ true → ⊥)
 first-true g zero h = absurd (omega arith)
 first-true g (suc m) h =
-    elim (cases-eq (count g m) 0)
-        [ inl e ↦ elim (cases-bool (g m))
-            [ inl t ↦ (m, omega arith, t, λ a l z. let k = count-some g m a l z in omega (arith, k))
-            | inr t ↦ let c = ap (λ b. cond {A = ℕ} b 1 0) t in absurd (omega (arith, c, h, e))
-            ]
-        | inr n ↦ let r = first-true g m (omega arith) in (r .0, omega (arith, r .1), r .2, r .3)
-        ]
+    elim (cases-eq (count g m) 0) [
+      | inl e ↦ elim (cases-bool (g m)) [
+        | inl t ↦ (m, omega arith, t, λ a l z. let k = count-some g m a l z in omega (arith, k))
+        | inr t ↦ let c = ap (λ b. cond {A = ℕ} b 1 0) t in absurd (omega (arith, c, h, e))
+      ]
+      | inr n ↦ let r = first-true g m (omega arith) in (r .0, omega (arith, r .1), r .2, r .3)
+    ]
 
 module _ (f : ℕ → Bool) (differ : Differ (Is f)) where
   lone-one : (i m : ℕ) → count (lone (freeb f i)) m ≤ 1
   lone-one i m =
       count-one (lone (freeb f i)) m (λ a b h k.
-          let x = lone-whole f i a h in
-          let y = lone-whole f i b k in
-          let e = differ i (x .0) (y .0) (x .2) (y .2) in
-          sym (x .1) ∙ ap (λ z. z / 2) e ∙ y .1)
+      let x = lone-whole f i a h in
+      let y = lone-whole f i b k in
+      let e = differ i (x .0) (y .0) (x .2) (y .2) in
+      sym (x .1) ∙ ap (λ z. z / 2) e ∙ y .1)
 
   -- fewer than 2 ^ i free ranks are outside of the free sets of level i
   pub outside : (i m : ℕ) → count f (dbl i m) < dbl i (count (freeb f i) m + 1)
@@ -139,14 +150,14 @@ module _ (f : ℕ → Bool) (differ : Differ (Is f)) where
   -- A, one way: so many free ranks, and there is a free set
   pub room : (i m : ℕ) → dbl i 1 ≤ count f (dbl i m) → (q : ℕ) × (q < m) × Free (Is f) i q × ((a : ℕ) → Free (Is f) i a → q ≤ a)
   room i m h =
-      let r = first-true (freeb f i) m (elim (cases-eq (count (freeb f i) m) 0)
-          [ inl e ↦ absurd (omega (arith, outside i m, ap (λ x. dbl i (x + 1)) e))
-          | inr e ↦ omega arith
-          ]) in
-      ( r .0
-      , r .1
-      , free-true f i (r .0) (r .2)
-      , λ a k. elim (cases-lt a (r .0)) [ inl l ↦ absurd (r .3 a l (true-free f i a k)) | inr l ↦ l ]
+      let r = first-true (freeb f i) m (elim (cases-eq (count (freeb f i) m) 0) [
+        | inl e ↦ absurd (omega (arith, outside i m, ap (λ x. dbl i (x + 1)) e))
+        | inr e ↦ omega arith
+      ]) in (
+        r .0,
+        r .1,
+        free-true f i (r .0) (r .2),
+        λ a k. elim (cases-lt a (r .0)) [ inl l ↦ absurd (r .3 a l (true-free f i a k)) | inr l ↦ l ],
       )
 
 -- A, the other way: no invariant is needed

@@ -63,9 +63,9 @@ clear-to f [] first size h k g e m = omega (arith, meets-decides g 0 first size 
 clear-to f (x ∷ xs) first size h zero g e m =
     let z : f ≡ g = omega arith in
     both-ways (meets g (sizeOf x) first size)
-        (subst (λ y. meets y (sizeOf x) first size ≡ false) z (not-true (meets f (sizeOf x) first size)
-            (and-parts (not (meets f (sizeOf x) first size)) (clearFrom (suc f) xs first size) h .0)))
-        m
+    (subst (λ y. meets y (sizeOf x) first size ≡ false) z (not-true (meets f (sizeOf x) first size)
+    (and-parts (not (meets f (sizeOf x) first size)) (clearFrom (suc f) xs first size) h .0)))
+    m
 clear-to f (x ∷ xs) first size h (suc k) g e m =
     clear-to (suc f) xs first size (and-parts (not (meets f (sizeOf x) first size)) (clearFrom (suc f) xs first size) h .1) k g (omega arith) m
 
@@ -74,33 +74,36 @@ clear-from : (f : ℕ) (xs : Ranks) (first size : ℕ)
 clear-from f [] first size h = refl
 clear-from f (x ∷ xs) first size h =
     and-from (not (meets f (sizeOf x) first size)) (clearFrom (suc f) xs first size)
-    (elim (cases-bool (meets f (sizeOf x) first size))
-        [ inl e ↦ absurd (h 0 f (omega arith) e)
-        | inr e ↦ not-from-false (meets f (sizeOf x) first size) e
-        ])
+    (elim (cases-bool (meets f (sizeOf x) first size)) [
+      | inl e ↦ absurd (h 0 f (omega arith) e)
+      | inr e ↦ not-from-false (meets f (sizeOf x) first size) e
+    ])
     (clear-from (suc f) xs first size (λ k g e m. h (suc k) g (omega arith) m))
 
 pub clear-decides : (n : ℕ) (xs : Ranks) (first size : ℕ) → first + size ≤ 2 ^ n → 0 < size → Decides (clear xs first size) (FreeSet n (sizeAt xs) first size)
-clear-decides n xs first size fit some =
-    ( (λ h r l m. (omega arith, λ f k. clear-to 0 xs first size h f f (omega arith)
-        (meets-decides f (sizeAt xs f) first size .1 (omega (arith, k .0), (omega (arith, k .1), omega (arith, k .0, k .1))))))
-    , λ h. clear-from 0 xs first size (λ k g e m.
-        let p = meets-decides g (sizeAt xs k) first size .0 m in
-        elim (cases-lt g first)
-            [ inl l ↦ h first (omega arith) (omega arith) .1 k (omega arith, omega (arith, p .1 .0))
-            | inr l ↦ h g l (p .0) .1 k (omega arith, omega (arith, p .1 .1))
-            ])
-    )
+clear-decides n xs first size fit some = (
+  (λ h r l m. (
+    omega arith,
+    λ f k. clear-to 0 xs first size h f f (omega arith)
+        (meets-decides f (sizeAt xs f) first size .1 (omega (arith, k .0), (omega (arith, k .1), omega (arith, k .0, k .1)))),
+  )),
+  λ h. clear-from 0 xs first size (λ k g e m.
+      let p = meets-decides g (sizeAt xs k) first size .0 m in
+      elim (cases-lt g first) [
+        | inl l ↦ h first (omega arith) (omega arith) .1 k (omega arith, omega (arith, p .1 .0))
+        | inr l ↦ h g l (p .0) .1 k (omega arith, omega (arith, p .1 .1))
+      ]),
+)
 
 pub isFree-decides : (n : ℕ) (xs : Ranks) (i q : ℕ) → Decides (isFree n xs i q) (Free (FreeIn n xs) i q)
-isFree-decides n xs i q =
-    ( (λ h.
-        let p = and-parts (leb (q * 2 ^ i + 2 ^ i) (2 ^ n)) (clear xs (q * 2 ^ i) (2 ^ i)) h in
-        at (leb-true (q * 2 ^ i + 2 ^ i) (2 ^ n) (p .0)) .0 (p .1))
-    , λ h.
-        let w = inside n i q (within n (sizeAt xs) i q h) in
-        and-from (leb (q * 2 ^ i + 2 ^ i) (2 ^ n)) (clear xs (q * 2 ^ i) (2 ^ i)) (le-leb (q * 2 ^ i + 2 ^ i) (2 ^ n) w) (at w .1 h)
-    )
+isFree-decides n xs i q = (
+  (λ h.
+      let p = and-parts (leb (q * 2 ^ i + 2 ^ i) (2 ^ n)) (clear xs (q * 2 ^ i) (2 ^ i)) h in
+      at (leb-true (q * 2 ^ i + 2 ^ i) (2 ^ n) (p .0)) .0 (p .1)),
+  λ h.
+      let w = inside n i q (within n (sizeAt xs) i q h) in
+      and-from (leb (q * 2 ^ i + 2 ^ i) (2 ^ n)) (clear xs (q * 2 ^ i) (2 ^ i)) (le-leb (q * 2 ^ i + 2 ^ i) (2 ^ n) w) (at w .1 h),
+)
   where
     at : q * 2 ^ i + 2 ^ i ≤ 2 ^ n → Decides (clear xs (q * 2 ^ i) (2 ^ i)) (Free (FreeIn n xs) i q)
     at w = decides-set n (sizeAt xs) (clear xs (q * 2 ^ i) (2 ^ i)) i q (q * 2 ^ i) (2 ^ i) (firsts i q) (sizes i) (clear-decides n xs (q * 2 ^ i) (2 ^ i) w (pow-pos i))
@@ -126,43 +129,43 @@ source-rest f g m r u v =
 
 ranges : (f m r : ℕ) → ((k : ℕ) × (k < m) × (r ≡ f + k)) ⊎ ((k : ℕ) → k < m → r ≡ f + k → ⊥)
 ranges f m r =
-    elim (cases-lt r f)
-        [ inl l ↦ inr (λ k u v. omega arith)
-        | inr l ↦ elim (cases-lt r (f + m)) [ inl h ↦ inl (r - f, omega arith, omega arith) | inr h ↦ inr (λ k u v. omega arith) ]
-        ]
+    elim (cases-lt r f) [
+      | inl l ↦ inr (λ k u v. omega arith)
+      | inr l ↦ elim (cases-lt r (f + m)) [ inl h ↦ inl (r - f, omega arith, omega arith) | inr h ↦ inr (λ k u v. omega arith) ]
+    ]
 
 module _ (xs : Ranks) (f g m : ℕ) (apart : (f + m ≤ g) ⊎ (g + m ≤ f)) where
   exchanged-at : f + m ≤ length xs → g + m ≤ length xs → (r : ℕ) → getD (exchanged xs f g m) r None ≡ getD xs (source f g m r) None
   exchanged-at hf hg r =
-      elim (cases-lt r (length xs))
-          [ inl l ↦ getD-map-counting (λ x. getD xs (source f g m x) None) 0 (length xs) r r None l (omega arith)
-          | inr l ↦
-              List·getD-eq-default (exchanged xs f g m) None (omega (arith, length-map-counting (λ x. getD xs (source f g m x) None) 0 (length xs)))
-              ∙ sym (ap (λ x. getD xs x None) (source-rest f g m r (λ k u v. omega arith) (λ k u v. omega arith)) ∙ List·getD-eq-default xs None l)
-          ]
+      elim (cases-lt r (length xs)) [
+        | inl l ↦ getD-map-counting (λ x. getD xs (source f g m x) None) 0 (length xs) r r None l (omega arith)
+        | inr l ↦
+            List·getD-eq-default (exchanged xs f g m) None (omega (arith, length-map-counting (λ x. getD xs (source f g m x) None) 0 (length xs)))
+            ∙ sym (ap (λ x. getD xs x None) (source-rest f g m r (λ k u v. omega arith) (λ k u v. omega arith)) ∙ List·getD-eq-default xs None l)
+      ]
 
   pub exchanged-swapped : f + m ≤ length xs → g + m ≤ length xs → Swapped f g m xs (exchanged xs f g m)
   exchanged-swapped hf hg =
-      record
-        { len = length-map-counting (λ x. getD xs (source f g m x) None) 0 (length xs)
-        ; left = λ k l. exchanged-at hf hg (f + k) ∙ ap (λ x. getD xs x None) (source-left f g m k l)
-        ; right = λ k l. exchanged-at hf hg (g + k) ∙ ap (λ x. getD xs x None) (source-right f g m k apart l)
-        ; rest = λ r u v. exchanged-at hf hg r ∙ ap (λ x. getD xs x None) (source-rest f g m r u v)
-        }
+      record {
+        len = length-map-counting (λ x. getD xs (source f g m x) None) 0 (length xs);
+        left = λ k l. exchanged-at hf hg (f + k) ∙ ap (λ x. getD xs x None) (source-left f g m k l);
+        right = λ k l. exchanged-at hf hg (g + k) ∙ ap (λ x. getD xs x None) (source-right f g m k apart l);
+        rest = λ r u v. exchanged-at hf hg r ∙ ap (λ x. getD xs x None) (source-rest f g m r u v);
+      }
 
   -- the relation determines the list
   pub swapped-is : (ys : Ranks) → Swapped f g m xs ys → ys ≡ exchanged xs f g m
   swapped-is ys h =
       fill-by-all (λ x. getD xs (source f g m x) None) ys (length xs) None (h .len) (λ r _.
-          elim (ranges f m r)
-              [ inl t ↦ ap (λ x. getD ys x None) (t .2) ∙ h .left (t .0) (t .1)
-                  ∙ ap (λ x. getD xs x None) (sym (ap (source f g m) (t .2) ∙ source-left f g m (t .0) (t .1)))
-              | inr u ↦ elim (ranges g m r)
-                  [ inl t ↦ ap (λ x. getD ys x None) (t .2) ∙ h .right (t .0) (t .1)
-                      ∙ ap (λ x. getD xs x None) (sym (ap (source f g m) (t .2) ∙ source-right f g m (t .0) apart (t .1)))
-                  | inr v ↦ h .rest r u v ∙ ap (λ x. getD xs x None) (sym (source-rest f g m r u v))
-                  ]
-              ])
+      elim (ranges f m r) [
+        | inl t ↦ ap (λ x. getD ys x None) (t .2) ∙ h .left (t .0) (t .1)
+            ∙ ap (λ x. getD xs x None) (sym (ap (source f g m) (t .2) ∙ source-left f g m (t .0) (t .1)))
+        | inr u ↦ elim (ranges g m r) [
+          | inl t ↦ ap (λ x. getD ys x None) (t .2) ∙ h .right (t .0) (t .1)
+              ∙ ap (λ x. getD xs x None) (sym (ap (source f g m) (t .2) ∙ source-right f g m (t .0) apart (t .1)))
+          | inr v ↦ h .rest r u v ∙ ap (λ x. getD xs x None) (sym (source-rest f g m r u v))
+        ]
+      ])
 
 -- the climb
 pub climb-whole : (n : ℕ) (xs : Ranks) (i q k : ℕ) → k + i ≡ n → Free (FreeIn n xs) i q
@@ -174,13 +177,13 @@ climb-whole n xs i q (suc k) e h =
     cond-both (isFree n xs (suc i) (q / 2)) (climb n xs (suc i) (q / 2) k) (i, q)
     (λ w. Whole (FreeIn n xs) (w .0) (w .1) × (i ≤ w .0) × (w .1 ≡ up (w .0 - i) q))
     (λ t.
-        let r = climb-whole n xs (suc i) (q / 2) k (omega arith) (isFree-decides n xs (suc i) (q / 2) .0 t) in
-        let d : ℕ = climb n xs (suc i) (q / 2) k .0 in
-        let z : d - i ≡ suc (d - suc i) = omega (arith, r .1) in
-        (r .0, omega (arith, r .1), r .2 ∙ ap (λ x. up x q) (sym z)))
+    let r = climb-whole n xs (suc i) (q / 2) k (omega arith) (isFree-decides n xs (suc i) (q / 2) .0 t) in
+    let d : ℕ = climb n xs (suc i) (q / 2) k .0 in
+    let z : d - i ≡ suc (d - suc i) = omega (arith, r .1) in
+    (r .0, omega (arith, r .1), r .2 ∙ ap (λ x. up x q) (sym z)))
     (λ t.
-        let z : i - i ≡ 0 = omega arith in
-        ((h, λ y. both-ways (isFree n xs (suc i) (q / 2)) t (isFree-decides n xs (suc i) (q / 2) .1 y)), omega arith, ap (λ x. up x q) (sym z)))
+    let z : i - i ≡ 0 = omega arith in
+    ((h, λ y. both-ways (isFree n xs (suc i) (q / 2)) t (isFree-decides n xs (suc i) (q / 2) .1 y)), omega arith, ap (λ x. up x q) (sym z)))
 
 -- the steps of a loop that climbs
 pub climb-more : (n : ℕ) (xs : Ranks) (i q : ℕ) → i < n → isFree n xs (i + 1) (q / 2) ≡ true → climb n xs i q (n - i) ≡ climb n xs (i + 1) (q / 2) (n - (i + 1))
@@ -217,10 +220,10 @@ pub otherWhole-cases : (n : ℕ) (xs : Ranks) (i p : ℕ)
     → Cases (otherWhole n xs i p) ((o : ℕ) → Whole (FreeIn n xs) i o → o ≡ p) (λ o. Whole (FreeIn n xs) i o × (o ≡ p → ⊥))
 otherWhole-cases n xs i p =
     cases-map (otherWhole n xs i p)
-    (λ h o t. elim (cases-eq o p)
-        [ inl e ↦ e
-        | inr e ↦ absurd (h o (omega arith) (omega (arith, sets-count (2 ^ n) i o .1 (within n (sizeAt xs) i o (t .0)))) (other-decides n xs i p o .1 (e, t)))
-        ])
+    (λ h o t. elim (cases-eq o p) [
+      | inl e ↦ e
+      | inr e ↦ absurd (h o (omega arith) (omega (arith, sets-count (2 ^ n) i o .1 (within n (sizeAt xs) i o (t .0)))) (other-decides n xs i p o .1 (e, t)))
+    ])
     (λ o h. let d = other-decides n xs i p o .0 (h .0) in (d .1, d .0))
     (first-cases (λ o. not (eqb o p) && isWhole n xs i o) 0 (2 ^ n / 2 ^ i))
 
@@ -278,12 +281,11 @@ loose-found n xs i x e =
 
 -- a step of the search for a loose rank, the one below k
 module _ (n : ℕ) (xs : Ranks) (i k : ℕ) (pos : 0 < k) where
-
   pub loose-hit : (q : ℕ) → q ≡ (k - 1) / 2 ^ i → true ≡ isFree n xs 0 (k - 1) → false ≡ isFree n xs i q → lastBelow (λ r. isFree n xs 0 r && not (isFree n xs i (r / 2 ^ i))) k ≡ Some (k - 1)
   loose-hit q e a b =
       last-hit (λ r. isFree n xs 0 r && not (isFree n xs i (r / 2 ^ i))) k pos
       (and-from (isFree n xs 0 (k - 1)) (not (isFree n xs i ((k - 1) / 2 ^ i))) (sym a)
-        (not-from-false (isFree n xs i ((k - 1) / 2 ^ i)) (ap (isFree n xs i) (sym e) ∙ sym b)))
+      (not-from-false (isFree n xs i ((k - 1) / 2 ^ i)) (ap (isFree n xs i) (sym e) ∙ sym b)))
 
   pub loose-around : (q : ℕ) → q ≡ (k - 1) / 2 ^ i → true ≡ isFree n xs i q
       → lastBelow (λ r. isFree n xs 0 r && not (isFree n xs i (r / 2 ^ i))) k ≡ lastBelow (λ r. isFree n xs 0 r && not (isFree n xs i (r / 2 ^ i))) (k - 1)
@@ -311,10 +313,10 @@ module _ (xs : Ranks) (f g m : ℕ) (apart : (f + m ≤ g) ⊎ (g + m ≤ f)) (h
       let a : f + k < length ys = omega (arith, t .1 .len) in
       let b : g + k < length ys = omega (arith, t .1 .len) in
       let s = swapped-from-exchanged ys zs (f + k) (g + k) None a b refl in
-      let e : k + 1 ≡ suc k = omega arith in
-      ( zs
-      , subst (λ i. Swapped f g i xs zs) e (swapped-more f g m k xs ys zs apart (omega arith) (t .1) (length-exchanged ys (f + k) (g + k)) (s .0) (s .1) (s .2))
-      , shuffled-trans xs ys zs (t .2) (shuffled-swap ys zs (f + k) (g + k) a b refl)
+      let e : k + 1 ≡ suc k = omega arith in (
+        zs,
+        subst (λ i. Swapped f g i xs zs) e (swapped-more f g m k xs ys zs apart (omega arith) (t .1) (length-exchanged ys (f + k) (g + k)) (s .0) (s .1) (s .2)),
+        shuffled-trans xs ys zs (t .2) (shuffled-swap ys zs (f + k) (g + k) a b refl),
       )
 
   pub exchanged-shuffled : Shuffled xs (exchanged xs f g m)

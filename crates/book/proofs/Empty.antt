@@ -18,23 +18,23 @@ only-whole : (F : ℕ → Type 0) (n : ℕ) → ((r : ℕ) → r < dbl n 1 → F
 only-whole F n all only i p h =
     let x : ℕ = dbl i p in
     let zero-up : up n x ≡ 0 = up-below n x (only x (free-first F i p (h .0))) in
-    elim (cases-lt i n)
-        [ inl l ↦
-            let c : ℕ = n - suc i in
-            absurd (h .1 (fill-free F (suc i) (p / 2) (λ r e.
-                all r (below-up n r
-                    ( up-up c (suc i) n r (omega arith)
-                    ∙ ap (up c) (e ∙ ap (λ y. y / 2) (sym (up-dbl i p)) ∙ sym (up-half i x))
-                    ∙ sym (up-up c (suc i) n x (omega arith))
-                    ∙ zero-up
-                    )))))
-        | inr l ↦ elim (cases-eq i n)
-            [ inl e ↦ (e, sym (up-dbl i p) ∙ ap (λ y. up y x) e ∙ zero-up)
-            | inr m ↦
-                let c : ℕ = i - suc n in
-                absurd (bounded F n (dbl c p) only (free-part F c (suc n) i p (omega arith) (h .0)))
-            ]
-        ]
+    elim (cases-lt i n) [
+      | inl l ↦
+          let c : ℕ = n - suc i in
+          absurd (h .1 (fill-free F (suc i) (p / 2) (λ r e.
+          all r (below-up n r
+          (up-up c (suc i) n r (omega arith)
+          ∙ ap (up c) (e ∙ ap (λ y. y / 2) (sym (up-dbl i p)) ∙ sym (up-half i x))
+          ∙ sym (up-up c (suc i) n x (omega arith))
+          ∙ zero-up
+          )))))
+      | inr l ↦ elim (cases-eq i n) [
+        | inl e ↦ (e, sym (up-dbl i p) ∙ ap (λ y. up y x) e ∙ zero-up)
+        | inr m ↦
+            let c : ℕ = i - suc n in
+            absurd (bounded F n (dbl c p) only (free-part F c (suc n) i p (omega arith) (h .0)))
+      ]
+    ]
 
 pub empty-grow : (F : ℕ → Type 0) (n : ℕ) → ((r : ℕ) → r < dbl n 1 → F r) → ((r : ℕ) → F r → r < dbl n 1) → Grow F
 empty-grow F n all only i j d p q e hp hq =
@@ -50,5 +50,5 @@ empty-sound n sz none = record { sets = λ f pos. absurd (omega (arith, none f))
 pub empty-ordered : (n : ℕ) (sz : ℕ → ℕ) → ((f : ℕ) → sz f ≡ 0) → Ordered n sz
 empty-ordered n sz none =
     grow-ordered n sz (empty-grow (FreeRank n sz) n
-        (λ r l. (omega (arith, size-pow n), λ f k. omega (arith, none f, k .0, k .1)))
-        (λ r h. omega (arith, h .0, size-pow n)))
+    (λ r l. (omega (arith, size-pow n), λ f k. omega (arith, none f, k .0, k .1)))
+    (λ r h. omega (arith, h .0, size-pow n)))

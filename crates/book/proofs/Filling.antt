@@ -1,3 +1,4 @@
+-- The lowest free set of a size is taken: the whole free sets still grow from left to right.
 use mathlib.Core.Path.{_≡_, refl, sym, ap, subst, _∙_}
 use mathlib.Core.Logic.{_⊎_, inl, inr}
 use mathlib.Core.Bool.{Bool, true, false, cond, _&&_}
@@ -31,29 +32,28 @@ around F dec zero i k q v h top =
     let z : suc i ≡ suc k = omega arith in
     (0, omega arith, subst (λ x. Whole F x q) e (h, λ n. top (subst (λ x. Free F x (q / 2)) z n)))
 around F dec (suc c) i k q v h top =
-    elim (dec (suc i) (q / 2))
-        [ inl n ↦
-            let r = around F dec c (suc i) k (q / 2) (omega arith) n top in
-            let e : r .0 + suc i ≡ suc (r .0) + i = omega arith in
-            (suc (r .0), omega (arith, r .1), subst (λ x. Whole F x (up (suc (r .0)) q)) e (r .2))
-        | inr n ↦ let e : i ≡ 0 + i = omega arith in (0, omega arith, subst (λ x. Whole F x q) e (h, n))
-        ]
+    elim (dec (suc i) (q / 2)) [
+      | inl n ↦
+          let r = around F dec c (suc i) k (q / 2) (omega arith) n top in
+          let e : r .0 + suc i ≡ suc (r .0) + i = omega arith in
+          (suc (r .0), omega (arith, r .1), subst (λ x. Whole F x (up (suc (r .0)) q)) e (r .2))
+      | inr n ↦ let e : i ≡ 0 + i = omega arith in (0, omega arith, subst (λ x. Whole F x q) e (h, n))
+    ]
 
 -- Fill-in: the free set q of level j, the lowest of its size, is taken from the table F, and G is left.
 module _ (F G : ℕ → Type 0) (dec : (i x : ℕ) → Free F i x ⊎ (Free F i x → ⊥)) (j q : ℕ)
-  (least : (a : ℕ) → Free F j a → q ≤ a)
-  (to : (r : ℕ) → G r → F r × (up j r ≡ q → ⊥)) (from : (r : ℕ) → F r → (up j r ≡ q → ⊥) → G r) where
-
+    (least : (a : ℕ) → Free F j a → q ≤ a)
+    (to : (r : ℕ) → G r → F r × (up j r ≡ q → ⊥)) (from : (r : ℕ) → F r → (up j r ≡ q → ⊥) → G r) where
   was-free : (i x : ℕ) → Free G i x → Free F i x
   was-free zero x h = to x h .0
   was-free (suc i) x h = (was-free i (2 * x) (h .0), was-free i (2 * x + 1) (h .1))
 
   keep : (i x : ℕ) → Free F i x → ((r : ℕ) → up i r ≡ x → up j r ≡ q → ⊥) → Free G i x
   keep zero x h n = from x h (n x refl)
-  keep (suc i) x h n =
-      ( keep i (2 * x) (h .0) (λ r e. n r (up-half i r ∙ ap (λ y. y / 2) e ∙ omega arith))
-      , keep i (2 * x + 1) (h .1) (λ r e. n r (up-half i r ∙ ap (λ y. y / 2) e ∙ omega arith))
-      )
+  keep (suc i) x h n = (
+    keep i (2 * x) (h .0) (λ r e. n r (up-half i r ∙ ap (λ y. y / 2) e ∙ omega arith)),
+    keep i (2 * x + 1) (h .1) (λ r e. n r (up-half i r ∙ ap (λ y. y / 2) e ∙ omega arith)),
+  )
 
   clear-below : (d i x : ℕ) → d + i ≡ j → Free G i x → up d x ≡ q → ⊥
   clear-below d i x e h k =
@@ -68,27 +68,27 @@ module _ (F G : ℕ → Type 0) (dec : (i x : ℕ) → Free F i x ⊎ (Free F i 
 
   whole-new : (i x : ℕ) → Whole G i x → Whole F i x ⊎ Left i x
   whole-new i x h =
-      elim (dec (suc i) (x / 2))
-          [ inr n ↦ inl (was-free i x (h .0), n)
-          | inl k ↦ elim (cases-lt i j)
-              [ inl l ↦
-                  let d : ℕ = j - suc i in
-                  absurd (h .1 (keep (suc i) (x / 2) k (λ r e z.
-                      clear-below (suc d) i x (omega arith) (h .0)
-                      (ap (up d) (sym e) ∙ sym (up-up d (suc i) j r (omega arith)) ∙ z))))
-              | inr l ↦
-                  let c : ℕ = i - j in
-                  elim (cases-eq (x / 2) (up (suc c) q))
-                      [ inl e ↦
-                          let a : x ≡ up c q → ⊥ = clear-above c i x (omega arith) (h .0) in
-                          let b = least (dbl c x) (free-part F c j i x (omega arith) (was-free i x (h .0))) in
-                          let m = up-mono c q (dbl c x) b in
-                          inr (c, omega arith, omega (arith, a, m, up-dbl c x, up-half c q, e), e, k)
-                      | inr n ↦ absurd (h .1 (keep (suc i) (x / 2) k (λ r e z.
-                          n (sym e ∙ up-up (suc c) j (suc i) r (omega arith) ∙ ap (up (suc c)) z))))
-                      ]
+      elim (dec (suc i) (x / 2)) [
+        | inr n ↦ inl (was-free i x (h .0), n)
+        | inl k ↦ elim (cases-lt i j) [
+          | inl l ↦
+              let d : ℕ = j - suc i in
+              absurd (h .1 (keep (suc i) (x / 2) k (λ r e z.
+              clear-below (suc d) i x (omega arith) (h .0)
+              (ap (up d) (sym e) ∙ sym (up-up d (suc i) j r (omega arith)) ∙ z))))
+          | inr l ↦
+              let c : ℕ = i - j in
+              elim (cases-eq (x / 2) (up (suc c) q)) [
+                | inl e ↦
+                    let a : x ≡ up c q → ⊥ = clear-above c i x (omega arith) (h .0) in
+                    let b = least (dbl c x) (free-part F c j i x (omega arith) (was-free i x (h .0))) in
+                    let m = up-mono c q (dbl c x) b in
+                    inr (c, omega arith, omega (arith, a, m, up-dbl c x, up-half c q, e), e, k)
+                | inr n ↦ absurd (h .1 (keep (suc i) (x / 2) k (λ r e z.
+                    n (sym e ∙ up-up (suc c) j (suc i) r (omega arith) ∙ ap (up (suc c)) z))))
               ]
-          ]
+        ]
+      ]
 
   module _ (e w : ℕ) (size : e + j ≡ w) (host : Whole F w (up e q)) (grow : Grow F) where
     -- nothing else that is whole is in the host
@@ -97,13 +97,13 @@ module _ (F G : ℕ → Type 0) (dec : (i x : ℕ) → Free F i x ⊎ (Free F i 
 
     small : (c i x : ℕ) → c + j ≡ i → x ≡ up (suc c) q → Free F (suc i) x → c < e
     small c i x v k h =
-        elim (cases-lt c e)
-            [ inl l ↦ l
-            | inr l ↦
-                let d : ℕ = c - e in
-                absurd (over F w (suc i) d (up e q) (omega arith) host
-                    (subst (Free F (suc i)) (k ∙ up-up (suc d) e (suc c) q (omega arith)) h))
-            ]
+        elim (cases-lt c e) [
+          | inl l ↦ l
+          | inr l ↦
+              let d : ℕ = c - e in
+              absurd (over F w (suc i) d (up e q) (omega arith) host
+              (subst (Free F (suc i)) (k ∙ up-up (suc d) e (suc c) q (omega arith)) h))
+        ]
 
     -- a rest of the host, seen from the host's level
     rest-up : (c i x d : ℕ) → c + j ≡ i → suc d + i ≡ w → x / 2 ≡ up (suc c) q → up (suc d) x ≡ up e q
@@ -120,22 +120,22 @@ module _ (F G : ℕ → Type 0) (dec : (i x : ℕ) → Free F i x ⊎ (Free F i 
     rest-old : (i k d x y : ℕ) → d + i ≡ k → Left i x → Whole F k y → Free G k y → up d x ≤ y
     rest-old i k d x y u a hy gy =
         let l : a .0 < e = small (a .0) i (x / 2) (a .1) (a .3) (a .4) in
-        elim (cases-lt w k)
-            [ inl m ↦
-                let c : ℕ = w - suc i in
-                let b : ℕ = k - w in
-                let z = up-up b (suc c) d x (omega (arith, a .1)) ∙ ap (up b) (rest-up (a .0) i x c (a .1) (omega (arith, a .1)) (a .3)) in
-                omega (arith, z, grow w k b (up e q) y (omega arith) host hy)
-            | inr m ↦
-                let b : ℕ = w - k in
-                let c : ℕ = k - j in
-                let v : c + j ≡ k = omega (arith, a .1) in
-                let h1 = grow k w b y (up e q) (omega arith) hy host in
-                let h2 = up-mono c q (dbl c y) (least (dbl c y) (free-part F c j k y v (hy .0))) in
-                let h3 = up-mono b (up c q) y (omega (arith, h2, up-dbl c y)) in
-                let h4 : up b y ≡ up e q = omega (arith, h1, h3, up-up b c e q (omega arith)) in
-                absurd (not-inside k y hy gy c v b (omega arith) h4)
-            ]
+        elim (cases-lt w k) [
+          | inl m ↦
+              let c : ℕ = w - suc i in
+              let b : ℕ = k - w in
+              let z = up-up b (suc c) d x (omega (arith, a .1)) ∙ ap (up b) (rest-up (a .0) i x c (a .1) (omega (arith, a .1)) (a .3)) in
+              omega (arith, z, grow w k b (up e q) y (omega arith) host hy)
+          | inr m ↦
+              let b : ℕ = w - k in
+              let c : ℕ = k - j in
+              let v : c + j ≡ k = omega (arith, a .1) in
+              let h1 = grow k w b y (up e q) (omega arith) hy host in
+              let h2 = up-mono c q (dbl c y) (least (dbl c y) (free-part F c j k y v (hy .0))) in
+              let h3 = up-mono b (up c q) y (omega (arith, h2, up-dbl c y)) in
+              let h4 : up b y ≡ up e q = omega (arith, h1, h3, up-up b c e q (omega arith)) in
+              absurd (not-inside k y hy gy c v b (omega arith) h4)
+        ]
       where
         not-inside : (k y : ℕ) → Whole F k y → Free G k y → (c : ℕ) → c + j ≡ k → (b : ℕ) → b + k ≡ w → up b y ≡ up e q → ⊥
         not-inside k y hy gy c v zero t h =
@@ -145,29 +145,29 @@ module _ (F G : ℕ → Type 0) (dec : (i x : ℕ) → Free F i x ⊎ (Free F i 
 
     old-rest : (i k d x y : ℕ) → d + i ≡ k → Whole F i x → Left k y → up d x ≤ y
     old-rest i k d x y u hx b =
-        elim (cases-lt y (up d x))
-            [ inr m ↦ m
-            | inl m ↦
-                let l : b .0 < e = small (b .0) k (y / 2) (b .1) (b .3) (b .4) in
-                let c : ℕ = w - k in
-                let a : ℕ = w - suc i in
-                let h1 = grow i w (suc a) x (up e q) (omega (arith, b .1)) hx host in
-                let h2 = up-mono c (up (b .0) q) (up d x) (omega (arith, b .2)) in
-                let h3 : up (suc a) x ≡ up e q =
-                    omega (arith, h1, h2, up-up c (b .0) e q (omega (arith, b .1)), up-up c d (suc a) x (omega (arith, b .1))) in
-                absurd (absorbed a i x (omega (arith, b .1)) hx h3)
-            ]
+        elim (cases-lt y (up d x)) [
+          | inr m ↦ m
+          | inl m ↦
+              let l : b .0 < e = small (b .0) k (y / 2) (b .1) (b .3) (b .4) in
+              let c : ℕ = w - k in
+              let a : ℕ = w - suc i in
+              let h1 = grow i w (suc a) x (up e q) (omega (arith, b .1)) hx host in
+              let h2 = up-mono c (up (b .0) q) (up d x) (omega (arith, b .2)) in
+              let h3 : up (suc a) x ≡ up e q =
+              omega (arith, h1, h2, up-up c (b .0) e q (omega (arith, b .1)), up-up c d (suc a) x (omega (arith, b .1))) in
+              absurd (absorbed a i x (omega (arith, b .1)) hx h3)
+        ]
 
     -- B
     pub fill : Grow G
     fill i k d x y u hx hy =
-        elim (whole-new i x hx)
-            [ inl a ↦ elim (whole-new k y hy)
-                [ inl b ↦ grow i k d x y u a b
-                | inr b ↦ old-rest i k d x y u a b
-                ]
-            | inr a ↦ elim (whole-new k y hy)
-                [ inl b ↦ rest-old i k d x y u a b (hy .0)
-                | inr b ↦ rest-rest i k d x y u a b
-                ]
-            ]
+        elim (whole-new i x hx) [
+          | inl a ↦ elim (whole-new k y hy) [
+            | inl b ↦ grow i k d x y u a b
+            | inr b ↦ old-rest i k d x y u a b
+          ]
+          | inr a ↦ elim (whole-new k y hy) [
+            | inl b ↦ rest-old i k d x y u a b (hy .0)
+            | inr b ↦ rest-rest i k d x y u a b
+          ]
+        ]

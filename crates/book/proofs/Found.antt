@@ -26,9 +26,9 @@ first-cases f i (suc k) =
     (λ o. Cases o ((a : ℕ) → i ≤ a → a < i + suc k → f a ≡ true → ⊥) (λ a. (f a ≡ true) × (a < i + suc k) × ((b : ℕ) → i ≤ b → b < a → f b ≡ true → ⊥)))
     (λ e. (e, omega arith, λ b l m h. omega arith))
     (λ e. cases-map (firstFrom f (suc i) k)
-        (λ h a l m t. elim (cases-eq a i) [ inl z ↦ both-ways (f a) (ap f z ∙ e) t | inr z ↦ h a (omega arith) (omega arith) t ])
-        (λ a h. (h .0, omega (arith, h .1), λ b l m t. elim (cases-eq b i) [ inl z ↦ both-ways (f b) (ap f z ∙ e) t | inr z ↦ h .2 b (omega arith) m t ]))
-        (first-cases f (suc i) k))
+    (λ h a l m t. elim (cases-eq a i) [ inl z ↦ both-ways (f a) (ap f z ∙ e) t | inr z ↦ h a (omega arith) (omega arith) t ])
+    (λ a h. (h .0, omega (arith, h .1), λ b l m t. elim (cases-eq b i) [ inl z ↦ both-ways (f b) (ap f z ∙ e) t | inr z ↦ h .2 b (omega arith) m t ]))
+    (first-cases f (suc i) k))
 
 pub last-cases : (f : ℕ → Bool) (k : ℕ) → Cases (lastBelow f k) ((a : ℕ) → a < k → f a ≡ true → ⊥)
     (λ a. (f a ≡ true) × (a < k) × ((b : ℕ) → b < k → f b ≡ true → b ≤ a))
@@ -38,9 +38,9 @@ last-cases f (suc k) =
     (λ o. Cases o ((a : ℕ) → a < suc k → f a ≡ true → ⊥) (λ a. (f a ≡ true) × (a < suc k) × ((b : ℕ) → b < suc k → f b ≡ true → b ≤ a)))
     (λ e. (e, omega arith, λ b l h. omega arith))
     (λ e. cases-map (lastBelow f k)
-        (λ h a l t. elim (cases-eq a k) [ inl z ↦ both-ways (f a) (ap f z ∙ e) t | inr z ↦ h a (omega arith) t ])
-        (λ a h. (h .0, omega (arith, h .1), λ b l t. elim (cases-eq b k) [ inl z ↦ absurd (both-ways (f b) (ap f z ∙ e) t) | inr z ↦ h .2 b (omega arith) t ]))
-        (last-cases f k))
+    (λ h a l t. elim (cases-eq a k) [ inl z ↦ both-ways (f a) (ap f z ∙ e) t | inr z ↦ h a (omega arith) t ])
+    (λ a h. (h .0, omega (arith, h .1), λ b l t. elim (cases-eq b k) [ inl z ↦ absurd (both-ways (f b) (ap f z ∙ e) t) | inr z ↦ h .2 b (omega arith) t ]))
+    (last-cases f k))
 
 -- the steps of a loop that searches
 pub first-skip : (f : ℕ → Bool) (i m : ℕ) → i < m → f i ≡ false → firstFrom f i (m - i) ≡ firstFrom f (i + 1) (m - (i + 1))

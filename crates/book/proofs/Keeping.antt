@@ -67,27 +67,27 @@ empty-stands n =
     let xs : Ranks = emptyRanks n in
     let none : (f : ℕ) → sizeAt xs f ≡ 0 = λ f. ap sizeOf (none-at (2 ^ n) f) in
     let order : Ordered n (sizeAt xs) = empty-ordered n (sizeAt xs) none in
-    record
-      { long = length-replicate (2 ^ n) None
-      ; fit = λ f s e. some-none s (sym e ∙ none-at (2 ^ n) f)
-      ; sound = empty-sound n (sizeAt xs) none
-      ; once = λ f g s t a b e. some-none s (sym a ∙ none-at (2 ^ n) f)
-      ; distinct = ordered-distinct n xs order
-      ; ordered = order
-      }
+    record {
+      long = length-replicate (2 ^ n) None;
+      fit = λ f s e. some-none s (sym e ∙ none-at (2 ^ n) f);
+      sound = empty-sound n (sizeAt xs) none;
+      once = λ f g s t a b e. some-none s (sym a ∙ none-at (2 ^ n) f);
+      distinct = ordered-distinct n xs order;
+      ordered = order;
+    }
 
 -- Fill-in.
 
 -- an entry is at a place where it was, or is the new one
 set-cases : (xs : Ranks) (f g : ℕ) (x : Option Session) (s : Session) → getD (set xs f x) g None ≡ Some s → ((g ≡ f) × (x ≡ Some s)) ⊎ ((g ≡ f → ⊥) × (getD xs g None ≡ Some s))
 set-cases xs f g x s e =
-    elim (cases-eq g f)
-        [ inl z ↦ elim (cases-lt f (length xs))
-            [ inl l ↦ inl (z, sym (ap (λ y. getD (set xs f x) y None) z ∙ getD-set-same xs f x None l) ∙ e)
-            | inr l ↦ some-none s (sym e ∙ getD-past (set xs f x) g None (omega (arith, length-set xs f x)))
-            ]
-        | inr z ↦ inr (z, sym (getD-set-other xs f g x None z) ∙ e)
-        ]
+    elim (cases-eq g f) [
+      | inl z ↦ elim (cases-lt f (length xs)) [
+        | inl l ↦ inl (z, sym (ap (λ y. getD (set xs f x) y None) z ∙ getD-set-same xs f x None l) ∙ e)
+        | inr l ↦ some-none s (sym e ∙ getD-past (set xs f x) g None (omega (arith, length-set xs f x)))
+      ]
+      | inr z ↦ inr (z, sym (getD-set-other xs f g x None z) ∙ e)
+    ]
 
 module _ (n : ℕ) (xs : Ranks) (s : Session) (f : ℕ) (p : Place n xs s f) (h : Standing n xs) where
   at : f ≡ dbl (p .level) (p .index)
@@ -103,10 +103,10 @@ module _ (n : ℕ) (xs : Ranks) (s : Session) (f : ℕ) (p : Place n xs s f) (h 
 
   set-fits : (g : ℕ) (t : Session) → getD (set xs f (Some s)) g None ≡ Some t → Fits n t
   set-fits g t e =
-      elim (set-cases xs f g (Some s) t e)
-          [ inl k ↦ let z : s ≡ t = some-same s t (k .1) in subst (Fits n) z (fits-decides n s .0 (p .fit))
-          | inr k ↦ h .fit g t (k .1)
-          ]
+      elim (set-cases xs f g (Some s) t e) [
+        | inl k ↦ let z : s ≡ t = some-same s t (k .1) in subst (Fits n) z (fits-decides n s .0 (p .fit))
+        | inr k ↦ h .fit g t (k .1)
+      ]
     where
       some-same : (a b : Session) → Some a ≡ Some b → a ≡ b
       some-same a b e = cc
@@ -119,6 +119,7 @@ module _ (n : ℕ) (xs : Ranks) (s : Session) (f : ℕ) (p : Place n xs s f) (h 
     where
       number : (a b : Session) → Some a ≡ Some b → a .number ≡ b .number
       number a b e = let z : a ≡ b = cc in ap (λ (y : Session). y .number) z
+
       go : ((g ≡ f) × (Some s ≡ Some t)) ⊎ ((g ≡ f → ⊥) × (getD xs g None ≡ Some t)) → ((k ≡ f) × (Some s ≡ Some u)) ⊎ ((k ≡ f → ⊥) × (getD xs k None ≡ Some u)) → g ≡ k
       go (inl x) (inl y) = x .0 ∙ sym (y .0)
       go (inl x) (inr y) = absurd (not-there k u (y .1) (number s t (x .1) ∙ e))
@@ -127,14 +128,14 @@ module _ (n : ℕ) (xs : Ranks) (s : Session) (f : ℕ) (p : Place n xs s f) (h 
 
   pub set-stands : Standing n (set xs f (Some s))
   set-stands =
-      record
-        { long = length-set xs f (Some s) ∙ h .long
-        ; fit = set-fits
-        ; sound = set-sound
-        ; once = set-once
-        ; distinct = ordered-distinct n (set xs f (Some s)) set-ordered
-        ; ordered = set-ordered
-        }
+      record {
+        long = length-set xs f (Some s) ∙ h .long;
+        fit = set-fits;
+        sound = set-sound;
+        once = set-once;
+        distinct = ordered-distinct n (set xs f (Some s)) set-ordered;
+        ordered = set-ordered;
+      }
 
   inside : f < length xs
   inside = omega (arith, p .first, p .inside, h .long, pow-pos (p .level))
@@ -159,31 +160,35 @@ module _ (n : ℕ) (xs : Ranks) (s : Session) (f : ℕ) (p : Place n xs s f) (h 
       let j : ℕ = p .level in
       let q : ℕ = p .index in
       let w = within n (sizeAt xs) j q (p .free) in
-      record
-        { fit = fits-decides n s .0 (p .fit)
-        ; new = λ b. not-there (b .0) (b .1) (b .2) (sym (b .3))
-        ; set = subst (Set n f) (sym (p .size-is)) (set-of n j q f at w)
-        ; free = subst (FreeSet n (sizeAt xs) f) (sym (p .size-is)) (λ r u v. all-free (FreeIn n xs) j q (p .free) r (omega (arith, at)) (omega (arith, at, size-pow j)))
-        ; lowest = subst (λ m. (g : ℕ) → Set n g m → FreeSet n (sizeAt xs) g m → f ≤ g) (sym (p .size-is)) (lowest-first n xs j q f at (p .least))
-        ; sessions = set-sums
-        }
+      record {
+        fit = fits-decides n s .0 (p .fit);
+        new = λ b. not-there (b .0) (b .1) (b .2) (sym (b .3));
+        set = subst (Set n f) (sym (p .size-is)) (set-of n j q f at w);
+        free = subst (FreeSet n (sizeAt xs) f) (sym (p .size-is)) (λ r u v. all-free (FreeIn n xs) j q (p .free) r (omega (arith, at)) (omega (arith, at, size-pow j)));
+        lowest = subst (λ m. (g : ℕ) → Set n g m → FreeSet n (sizeAt xs) g m → f ≤ g) (sym (p .size-is)) (lowest-first n xs j q f at (p .least));
+        sessions = set-sums;
+      }
 
 -- what is free and what is held make the table
 pub free-and-held : (n : ℕ) (xs : Ranks) → Sound n (sizeAt xs) → freeRanks n xs + total (sizeAt xs) (2 ^ n) ≡ 2 ^ n
 unfolding freeRanks
 free-and-held n xs sound =
-    omega (arith, count-free n (sizeAt xs) sound, count-same (isFree n xs 0) (vacant n (sizeAt xs)) (2 ^ n) (λ r l.
-        same-from-decides (isFree n xs 0 r) (vacant n (sizeAt xs) r) (isFree-decides n xs 0 r) (vacant-decides n (sizeAt xs) r)))
+    omega (
+      arith,
+      count-free n (sizeAt xs) sound,
+      count-same (isFree n xs 0) (vacant n (sizeAt xs)) (2 ^ n) (λ r l.
+          same-from-decides (isFree n xs 0 r) (vacant n (sizeAt xs) r) (isFree-decides n xs 0 r) (vacant-decides n (sizeAt xs) r)),
+    )
 
 -- where no set of a size is free, fewer ranks are
 none-free : (n : ℕ) (xs : Ranks) (j : ℕ) → j ≤ n → Standing n xs → ((a : ℕ) → Free (FreeIn n xs) j a → ⊥) → freeRanks n xs < 2 ^ j
 none-free n xs j low h none =
-    elim (cases-lt (freeRanks n xs) (2 ^ j))
-        [ inl l ↦ l
-        | inr l ↦
-            let r = room-fits n (sizeAt xs) (h .sound) (grow-differ (FreeRank n (sizeAt xs)) (ordered-grow n (sizeAt xs) (h .ordered))) j (n - j) (omega arith) (omega (arith, free-and-held n xs (h .sound))) in
-            absurd (none (r .0) (r .2))
-        ]
+    elim (cases-lt (freeRanks n xs) (2 ^ j)) [
+      | inl l ↦ l
+      | inr l ↦
+          let r = room-fits n (sizeAt xs) (h .sound) (grow-differ (FreeRank n (sizeAt xs)) (ordered-grow n (sizeAt xs) (h .ordered))) j (n - j) (omega arith) (omega (arith, free-and-held n xs (h .sound))) in
+          absurd (none (r .0) (r .2))
+    ]
 
 unplaced : (n : ℕ) (xs : Ranks) (s : Session) → Standing n xs → None ≡ placeFor n xs s → Fits n s → (InBook xs (s .number) → ⊥) → freeRanks n xs < s .size
 unfolding placeFor lowestFirst
@@ -192,10 +197,10 @@ unplaced n xs s h e fit new =
     let u : holds (s .number) xs ≡ false = elim (cases-bool (holds (s .number) xs)) [ inl y ↦ absurd (new (holds-at (s .number) xs y)) | inr y ↦ y ] in
     let level = level-is n (s .size) (fit .level) (fit .low) (fit .size-is) in
     subst (λ m. freeRanks n xs < m) (sym (fit .size-is)) (none-free n xs (fit .level) (fit .low) h
-        (lowest (lowestFree n xs (fit .level)) refl
-            (e ∙ ap (λ b. cond (b && not (holds (s .number) xs)) (lowestFirst n xs (s .size)) None) t
-               ∙ ap (λ b. cond (not b) (lowestFirst n xs (s .size)) None) u
-               ∙ ap (λ o. whenSome o None (λ i. whenSome (lowestFree n xs i) None (λ q. Some (q * 2 ^ i)))) level)))
+    (lowest (lowestFree n xs (fit .level)) refl
+    (e ∙ ap (λ b. cond (b && not (holds (s .number) xs)) (lowestFirst n xs (s .size)) None) t
+    ∙ ap (λ b. cond (not b) (lowestFirst n xs (s .size)) None) u
+    ∙ ap (λ o. whenSome o None (λ i. whenSome (lowestFree n xs i) None (λ q. Some (q * 2 ^ i)))) level)))
   where
     lowest : (o : Option ℕ) → o ≡ lowestFree n xs (fit .level) → None ≡ whenSome (lowestFree n xs (fit .level)) None (λ q. Some (q * 2 ^ fit .level)) → (a : ℕ) → Free (FreeIn n xs) (fit .level) a → ⊥
     lowest None d z = subst (λ o. Cases o ((a : ℕ) → Free (FreeIn n xs) (fit .level) a → ⊥) (λ q. Free (FreeIn n xs) (fit .level) q × ((a : ℕ) → Free (FreeIn n xs) (fit .level) a → q ≤ a)))
@@ -221,8 +226,8 @@ fill-law n xs s h = go (placeFor n xs s) refl
 pub number-found : (number : ℕ) (xs : Ranks) (f : ℕ) → Some f ≡ placeOf number xs → (s : Session) × (getD xs f None ≡ Some s) × (s .number ≡ number) × (f < length xs)
 number-found number xs f e =
     let t = subst (λ o. Cases o ((a : ℕ) → 0 ≤ a → a < 0 + length xs → isNumber number (getD xs a None) ≡ true → ⊥)
-        (λ a. (isNumber number (getD xs a None) ≡ true) × (a < 0 + length xs) × ((b : ℕ) → 0 ≤ b → b < a → isNumber number (getD xs b None) ≡ true → ⊥))) (sym e)
-        (first-cases (λ f. isNumber number (getD xs f None)) 0 (length xs)) in
+    (λ a. (isNumber number (getD xs a None) ≡ true) × (a < 0 + length xs) × ((b : ℕ) → 0 ≤ b → b < a → isNumber number (getD xs b None) ≡ true → ⊥))) (sym e)
+    (first-cases (λ f. isNumber number (getD xs f None)) 0 (length xs)) in
     let r = number-of (getD xs f None) (t .0) in
     (r .0, r .1, r .2, omega (arith, t .1))
   where
@@ -276,19 +281,19 @@ module _ (n : ℕ) (xs : Ranks) (f j : ℕ) (s : Session) (is : getD xs f None �
 
   pub end-stands : Standing n (releasedSet n xs j f)
   end-stands =
-      record
-        { long = long-after
-        ; fit = λ g t e. fits-decides n t .0 (sym (ap (fitsIn n) e) ∙ all-getD (λ x. fitsIn n x ≡ true) (releasedSet n xs j f) g None (in-after g t e)
-            (all-shuffled (λ x. fitsIn n x ≡ true) (set xs f None) (releasedSet n xs j f) (kept .2) (all-set (λ x. fitsIn n x ≡ true) xs f None refl fit-all)))
-        ; sound = kept .0
-        ; once = λ g k t u a b e.
+      record {
+        long = long-after;
+        fit = λ g t e. fits-decides n t .0 (sym (ap (fitsIn n) e) ∙ all-getD (λ x. fitsIn n x ≡ true) (releasedSet n xs j f) g None (in-after g t e)
+            (all-shuffled (λ x. fitsIn n x ≡ true) (set xs f None) (releasedSet n xs j f) (kept .2) (all-set (λ x. fitsIn n x ≡ true) xs f None refl fit-all)));
+        sound = kept .0;
+        once = λ g k t u a b e.
             let one : (v : Session) → v .number ≡ t .number → called (t .number) v ≡ 1 = λ v z. cond-true {A = ℕ} (eqb (v .number) (t .number)) 1 0 (eq-eqb (v .number) (t .number) z) in
             sum-one (opt (called (t .number))) (releasedSet n xs j f) None g k (in-after g t a) (in-after k u b)
-                (omega (arith, ap (opt (called (t .number))) a, one t refl)) (omega (arith, ap (opt (called (t .number))) b, one u (sym e)))
-                (omega (arith, sum-gone (called (t .number)), once-count xs (tested n xs h .once) (t .number)))
-        ; distinct = ordered-distinct n (releasedSet n xs j f) (kept .1)
-        ; ordered = kept .1
-        }
+            (omega (arith, ap (opt (called (t .number))) a, one t refl)) (omega (arith, ap (opt (called (t .number))) b, one u (sym e)))
+            (omega (arith, sum-gone (called (t .number)), once-count xs (tested n xs h .once) (t .number)));
+        distinct = ordered-distinct n (releasedSet n xs j f) (kept .1);
+        ordered = kept .1;
+      }
 
   pub end-sums : SameSessions (sessionsOf (releasedSet n xs j f)) (without (s .number) (sessionsOf xs))
   end-sums g =
@@ -324,21 +329,21 @@ release-law n xs number h = go (placeOf number xs) refl
     go : (o : Option ℕ) → o ≡ placeOf number xs → Ended n xs number (released n xs number)
     go None e =
         let none : holds number xs ≡ false = sym (place-holds number xs) ∙ ap isSome (sym e) in
-        subst (Ended n xs number) (released-none n xs number e) (record
-          { sessions = λ g. omega (arith, sum-without g number (sessionsOf xs), sum-sessions (only g number) xs, only-none g number xs (holds-none number xs none))
-          ; room = λ f s is same. absurd (both-ways (holds number xs) none (at-holds number xs f s is same))
-          })
+        subst (Ended n xs number) (released-none n xs number e) (record {
+          sessions = λ g. omega (arith, sum-without g number (sessionsOf xs), sum-sessions (only g number) xs, only-none g number xs (holds-none number xs none));
+          room = λ f s is same. absurd (both-ways (holds number xs) none (at-holds number xs f s is same));
+        })
     go (Some f) e =
         let r = number-found number xs f e in
         let k = h .fit f (r .0) (r .1) in
-        subst (Ended n xs number) (released-is n xs number f (k .level) (r .0) e (r .1) (k .low) (k .size-is)) (record
-          { sessions = subst (λ m. SameSessions (sessionsOf (releasedSet n xs (k .level) f)) (without m (sessionsOf xs))) (r .2) (end-sums n xs f (k .level) (r .0) (r .1) (r .3) (k .low) (k .size-is) h)
-          ; room = λ g s is same.
+        subst (Ended n xs number) (released-is n xs number f (k .level) (r .0) e (r .1) (k .low) (k .size-is)) (record {
+          sessions = subst (λ m. SameSessions (sessionsOf (releasedSet n xs (k .level) f)) (without m (sessionsOf xs))) (r .2) (end-sums n xs f (k .level) (r .0) (r .1) (r .3) (k .low) (k .size-is) h);
+          room = λ g s is same.
               let z : g ≡ f = h .once g f s (r .0) is (r .1) (same ∙ sym (r .2)) in
               let e : Some s ≡ Some (r .0) = sym is ∙ ap (λ y. getD xs y None) z ∙ r .1 in
               let y : s ≡ r .0 = cc in
-              end-room n xs f (k .level) (r .0) (r .1) (r .3) (k .low) (k .size-is) h ∙ ap (λ (t : Session). freeRanks n xs + t .size) (sym y)
-          })
+              end-room n xs f (k .level) (r .0) (r .1) (r .3) (k .low) (k .size-is) h ∙ ap (λ (t : Session). freeRanks n xs + t .size) (sym y);
+        })
 
 -- What a book's fields say, and back.
 pub book-stands : (b : Book) → Standing bits (b .ranks)

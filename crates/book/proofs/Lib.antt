@@ -25,3 +25,4 @@ pub mod Keeping
 pub mod Pigeon
 pub mod Reversed
 pub mod Spots
+pub mod Admits

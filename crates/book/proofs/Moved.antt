@@ -77,26 +77,29 @@ join-step n xs i p o len sound start others other ne =
     let w : ℕ × ℕ = wholeAround n ys (suc i) (o / 2) in
     let c = climb-whole n ys (suc i) (o / 2) (n - suc i) (omega (arith, low)) free in
     let z : w .0 - suc i ≡ w .0 - (i + 1) = omega arith in
-    record
-      { low = low; inside = inside; apart = apart; free = free
-      ; sound = joined-sound n i p o q xs start other ne near bro ys sound sw
-      ; whole = c .0
-      ; others = joined-again n i p o q xs start other ne near bro ys sound sw others (w .0) (w .1) (omega (arith, c .1)) (c .2 ∙ ap (λ x. up x (o / 2)) z) (c .0)
-      ; larger = c .1
-      ; kept = sets-shuffled n xs i p q len (within n (sizeAt xs) i p (start .0)) inside apart
-      }
+    record {
+      low = low;
+      inside = inside;
+      apart = apart;
+      free = free;
+      sound = joined-sound n i p o q xs start other ne near bro ys sound sw;
+      whole = c .0;
+      others = joined-again n i p o q xs start other ne near bro ys sound sw others (w .0) (w .1) (omega (arith, c .1)) (c .2 ∙ ap (λ x. up x (o / 2)) z) (c .0);
+      larger = c .1;
+      kept = sets-shuffled n xs i p q len (within n (sizeAt xs) i p (start .0)) inside apart;
+    }
 
 pub joining-keeps : (n : ℕ) (xs : Ranks) (i p k : ℕ) → 2 ^ n ≤ length xs → n ≤ k + i
     → Sound n (sizeAt xs) → Whole (FreeIn n xs) i p → Others (FreeIn n xs) i p
     → Sound n (sizeAt (joining n xs i p k)) × Differ (FreeIn n (joining n xs i p k)) × Shuffled xs (joining n xs i p k)
-joining-keeps n xs i p zero len e sound start others =
-    ( sound
-    , others-differ (FreeIn n xs) i p others (λ o h. elim (cases-eq o p)
-        [ inl z ↦ z
-        | inr z ↦ absurd (omega (arith, join-low n i p o (brother o) xs start h z (brother-near o) (brother-other o)))
-        ])
-    , shuffled-refl xs
-    )
+joining-keeps n xs i p zero len e sound start others = (
+  sound,
+  others-differ (FreeIn n xs) i p others (λ o h. elim (cases-eq o p) [
+    | inl z ↦ z
+    | inr z ↦ absurd (omega (arith, join-low n i p o (brother o) xs start h z (brother-near o) (brother-other o)))
+  ]),
+  shuffled-refl xs,
+)
 joining-keeps n xs i p (suc k) len e sound start others =
     whenSome-by (otherWhole n xs i p) xs
     (λ o. joining n (exchangedSets xs i p (brother o)) (wholeAround n (exchangedSets xs i p (brother o)) (suc i) (o / 2) .0) (wholeAround n (exchangedSets xs i p (brother o)) (suc i) (o / 2) .1) k)
@@ -104,11 +107,11 @@ joining-keeps n xs i p (suc k) len e sound start others =
     (otherWhole-cases n xs i p)
     (λ none. (sound, others-differ (FreeIn n xs) i p others none, shuffled-refl xs))
     (λ o t.
-        let m = join-step n xs i p o len sound start others (t .0) (t .1) in
-        let ys : Ranks = exchangedSets xs i p (brother o) in
-        let w : ℕ × ℕ = wholeAround n ys (suc i) (o / 2) in
-        let r = joining-keeps n ys (w .0) (w .1) k (omega (arith, length-shuffled xs ys (m .kept))) (omega (arith, m .larger)) (m .sound) (m .whole) (m .others) in
-        (r .0, r .1, shuffled-trans xs ys (joining n ys (w .0) (w .1) k) (m .kept) (r .2)))
+    let m = join-step n xs i p o len sound start others (t .0) (t .1) in
+    let ys : Ranks = exchangedSets xs i p (brother o) in
+    let w : ℕ × ℕ = wholeAround n ys (suc i) (o / 2) in
+    let r = joining-keeps n ys (w .0) (w .1) k (omega (arith, length-shuffled xs ys (m .kept))) (omega (arith, m .larger)) (m .sound) (m .whole) (m .others) in
+    (r .0, r .1, shuffled-trans xs ys (joining n ys (w .0) (w .1) k) (m .kept) (r .2)))
 
 -- The state of a loop that joins: what is left to do, in k steps at most, ends at zs.
 abbrev pub Joining : ℕ → Ranks → Ranks → ℕ × ℕ → Type 0
@@ -131,8 +134,12 @@ module _ (n : ℕ) (zs xs : Ranks) (i p o : ℕ) (len : 2 ^ n ≤ length xs) (h 
 
   left : (k : ℕ) → n ≤ k + i → zs ≡ joining n xs i p k → (k : ℕ) × (n ≤ k + W .0) × (zs ≡ joining n Y (W .0) (W .1) k)
   left zero l e = absurd (omega (arith, joining-step .low))
-  left (suc k) l e = (k, omega (arith, joining-step .larger), e ∙ ap (λ r. whenSome r xs (λ o. joining n (exchangedSets xs i p (brother o))
-      (wholeAround n (exchangedSets xs i p (brother o)) (suc i) (o / 2) .0) (wholeAround n (exchangedSets xs i p (brother o)) (suc i) (o / 2) .1) k)) (sym found))
+  left (suc k) l e = (
+    k,
+    omega (arith, joining-step .larger),
+    e ∙ ap (λ r. whenSome r xs (λ o. joining n (exchangedSets xs i p (brother o))
+        (wholeAround n (exchangedSets xs i p (brother o)) (suc i) (o / 2) .0) (wholeAround n (exchangedSets xs i p (brother o)) (suc i) (o / 2) .1) k)) (sym found),
+  )
 
   pub joining-in : (q : ℕ) → q ≡ brother o → q * 2 ^ i + 2 ^ i ≤ 2 ^ n
   joining-in q bro = inside n i q (subst (λ x. dbl i x + dbl i 1 ≤ 2 ^ n) (sym bro) (joining-step .inside))
@@ -169,24 +176,27 @@ orderedAt-keeps n xs i len low sound differ grow =
     whenSome-by (otherWhole n xs i (2 ^ n)) xs
     (λ p. whenSome (looseRank n xs i) xs (λ r. cond (ltb p (r / 2 ^ i)) (exchangedSets xs i p (r / 2 ^ i)) xs))
     P (otherWhole-cases n xs i (2 ^ n))
-    (λ none. (sound, differ
-        , skip-none n i xs differ grow (λ p h. omega (arith, none p h, within n (sizeAt xs) i p (h .0), dbl-grows i p, dbl-pos i))
-        , shuffled-refl xs))
+    (λ none. (
+      sound,
+      differ,
+      skip-none n i xs differ grow (λ p h. omega (arith, none p h, within n (sizeAt xs) i p (h .0), dbl-grows i p, dbl-pos i)),
+      shuffled-refl xs,
+    ))
     (λ p t. whenSome-by (looseRank n xs i) xs (λ r. cond (ltb p (r / 2 ^ i)) (exchangedSets xs i p (r / 2 ^ i)) xs) P (looseRank-cases n xs i)
-        (λ none. (sound, differ, skip-loose n i xs differ grow (λ a u v. none a (u, v)), shuffled-refl xs))
-        (λ r h. subst (λ x. P (cond (ltb p x) (exchangedSets xs i p x) xs)) (sym (around i r)) (cond-both (ltb p (up i r)) (exchangedSets xs i p (up i r)) xs P
-            (λ e.
-                let l = ltb-true p (up i r) e in
-                let ys : Ranks = exchangedSets xs i p (up i r) in
-                let hp = within n (sizeAt xs) i p (t .0 .0) in
-                let hq = rank-in n i r (up i r) low (h .0 .0 .0) refl in
-                let sw = sets-swapped n xs i p (up i r) len hp hq (λ z. omega arith) in
-                ( ordered-sound n i p r xs (t .0) (h .0 .0) (h .0 .1) ys sound sw
-                , ordered-differ n i p r xs (t .0) (h .0 .0) (h .0 .1) ys sound sw differ
-                , ordered-from n i p r xs (t .0) (h .0 .0) (h .0 .1) ys sound sw differ l (λ a u v. h .1 a (u, v)) grow
-                , sets-shuffled n xs i p (up i r) len hp hq (λ z. omega arith)
-                ))
-            (λ e. (sound, differ, skip-left n i xs differ grow p r (t .0) (λ a u v. h .1 a (u, v)) (ltb-false p (up i r) e), shuffled-refl xs)))))
+    (λ none. (sound, differ, skip-loose n i xs differ grow (λ a u v. none a (u, v)), shuffled-refl xs))
+    (λ r h. subst (λ x. P (cond (ltb p x) (exchangedSets xs i p x) xs)) (sym (around i r)) (cond-both (ltb p (up i r)) (exchangedSets xs i p (up i r)) xs P
+    (λ e.
+    let l = ltb-true p (up i r) e in
+    let ys : Ranks = exchangedSets xs i p (up i r) in
+    let hp = within n (sizeAt xs) i p (t .0 .0) in
+    let hq = rank-in n i r (up i r) low (h .0 .0 .0) refl in
+    let sw = sets-swapped n xs i p (up i r) len hp hq (λ z. omega arith) in (
+      ordered-sound n i p r xs (t .0) (h .0 .0) (h .0 .1) ys sound sw,
+      ordered-differ n i p r xs (t .0) (h .0 .0) (h .0 .1) ys sound sw differ,
+      ordered-from n i p r xs (t .0) (h .0 .0) (h .0 .1) ys sound sw differ l (λ a u v. h .1 a (u, v)) grow,
+      sets-shuffled n xs i p (up i r) len hp hq (λ z. omega arith),
+    ))
+    (λ e. (sound, differ, skip-left n i xs differ grow p r (t .0) (λ a u v. h .1 a (u, v)) (ltb-false p (up i r) e), shuffled-refl xs)))))
   where
     P : Ranks → Type 0
     P ys = Sound n (sizeAt ys) × Differ (FreeIn n ys) × GrowFrom (FreeIn n ys) i × Shuffled xs ys
@@ -218,14 +228,14 @@ release-start n xs j f len held sound ord =
     let free = gone-free n f j a xs len (t .0) (t .1) (t .2) sound in
     let c = climb-whole n ys j a (n - j) (omega (arith, t .3)) free in
     let w : ℕ × ℕ = wholeAround n ys j a in
-    record
-      { low = t .3
-      ; sound = gone-sound n f j a xs len (t .0) (t .1) (t .2) sound
-      ; free = free
-      ; whole = c .0
-      ; others = subst (Others (FreeIn n ys) (w .0)) (sym (c .2))
-          (gone-others n f j a xs len (t .0) (t .1) (t .2) sound ord (w .0 - j) (w .0) (omega (arith, c .1)) (subst (Whole (FreeIn n ys) (w .0)) (c .2) (c .0)))
-      })
+    record {
+      low = t .3;
+      sound = gone-sound n f j a xs len (t .0) (t .1) (t .2) sound;
+      free = free;
+      whole = c .0;
+      others = subst (Others (FreeIn n ys) (w .0)) (sym (c .2))
+          (gone-others n f j a xs len (t .0) (t .1) (t .2) sound ord (w .0 - j) (w .0) (omega (arith, c .1)) (subst (Whole (FreeIn n ys) (w .0)) (c .2) (c .0)));
+    })
 
 pub releasedSet-keeps : (n : ℕ) (xs : Ranks) (j f : ℕ) → 2 ^ n ≤ length xs → sizeAt xs f ≡ 2 ^ j → Sound n (sizeAt xs) → Ordered n (sizeAt xs)
     → Sound n (sizeAt (releasedSet n xs j f)) × Ordered n (sizeAt (releasedSet n xs j f)) × Shuffled (set xs f None) (releasedSet n xs j f)

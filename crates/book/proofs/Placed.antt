@@ -25,7 +25,7 @@ use Rattle.book.proofs.Numbers.{place-holds}
 pub level-found : (n m i : ℕ) → Some i ≡ levelFor n m → (i ≤ n) × (m ≡ 2 ^ i)
 level-found n m i e =
     let t = subst (λ o. Cases o ((a : ℕ) → 0 ≤ a → a < 0 + suc n → eqb (2 ^ a) m ≡ true → ⊥)
-        (λ a. (eqb (2 ^ a) m ≡ true) × (a < 0 + suc n) × ((b : ℕ) → 0 ≤ b → b < a → eqb (2 ^ b) m ≡ true → ⊥))) (sym e) (first-cases (λ i. eqb (2 ^ i) m) 0 (suc n)) in
+    (λ a. (eqb (2 ^ a) m ≡ true) × (a < 0 + suc n) × ((b : ℕ) → 0 ≤ b → b < a → eqb (2 ^ b) m ≡ true → ⊥))) (sym e) (first-cases (λ i. eqb (2 ^ i) m) 0 (suc n)) in
     (omega (arith, t .1), sym (eqb-true (2 ^ i) m (t .0)))
 
 -- the lowest free set, as the code finds it
@@ -55,13 +55,13 @@ module _ (n : ℕ) (xs : Ranks) (s : Session) where
   unfolding placeFor
   place-known e =
       sym (cond-false (fits n s && not (holds (s .number) xs)) (lowestFirst n xs (s .size)) None
-          (and-right (fits n s) (not (holds (s .number) xs)) (not-from-true (holds (s .number) xs) (sym (place-holds (s .number) xs) ∙ e))))
+      (and-right (fits n s) (not (holds (s .number) xs)) (not-from-true (holds (s .number) xs) (sym (place-holds (s .number) xs) ∙ e))))
 
   pub place-is : fits n s ≡ true → isSome (placeOf (s .number) xs) ≡ false → lowestFirst n xs (s .size) ≡ placeFor n xs s
   unfolding placeFor
   place-is a b =
       sym (cond-true (fits n s && not (holds (s .number) xs)) (lowestFirst n xs (s .size)) None
-          (and-from (fits n s) (not (holds (s .number) xs)) a (not-from-false (holds (s .number) xs) (sym (place-holds (s .number) xs) ∙ b))))
+      (and-from (fits n s) (not (holds (s .number) xs)) a (not-from-false (holds (s .number) xs) (sym (place-holds (s .number) xs) ∙ b))))
 
   -- the book after
   pub filled-at : (f : ℕ) → Some f ≡ placeFor n xs s → set xs f (Some s) ≡ filled n xs s
@@ -107,5 +107,5 @@ place-found n xs s f e = go (cases-bool (fits n s && not (holds (s .number) xs))
     go (inl t) =
         let p = and-parts (fits n s) (not (holds (s .number) xs)) t in
         level-at (p .0) (not-true (holds (s .number) xs) (p .1)) (levelFor n (s .size)) refl
-            (e ∙ cond-true (fits n s && not (holds (s .number) xs)) (lowestFirst n xs (s .size)) None t)
+        (e ∙ cond-true (fits n s && not (holds (s .number) xs)) (lowestFirst n xs (s .size)) None t)
     go (inr t) = some-none f (e ∙ cond-false (fits n s && not (holds (s .number) xs)) (lowestFirst n xs (s .size)) None t)

@@ -1,3 +1,4 @@
+-- Sets by first rank and size are sets by level and index.
 use mathlib.Core.Path.{_≡_, refl, sym, ap, subst, _∙_}
 use mathlib.Core.Logic.{_⊎_, inl, inr, _↔_}
 use Prim.Native.Nat.{ℕ, zero, suc, _+_, _*_, _/_, _%_, _-_, _^_, _<_, _≤_}
@@ -44,23 +45,23 @@ set-index n f m h =
     (i, f / m, e, omega (arith, div-add-mod' f m, z, dbl-pow i (f / m), h .1))
 
 pub index-set : (n i q : ℕ) → dbl i q + dbl i 1 ≤ 2 ^ n → Set n (dbl i q) (dbl i 1)
-index-set n i q h =
-    ( (i, size-pow i)
-    , let e : dbl i q ≡ q * dbl i 1 = dbl-pow i q ∙ ap (λ x. q * x) (sym (size-pow i)) in ap (λ x. x % dbl i 1) e ∙ mul-mod-left q (dbl i 1)
-    , h
-    )
+index-set n i q h = (
+  (i, size-pow i),
+  let e : dbl i q ≡ q * dbl i 1 = dbl-pow i q ∙ ap (λ x. q * x) (sym (size-pow i)) in ap (λ x. x % dbl i 1) e ∙ mul-mod-left q (dbl i 1),
+  h,
+)
 
 pub dbl-pos : (i : ℕ) → 0 < dbl i 1
 dbl-pos i = omega (arith, size-pow i, pow-pos i)
 
 pub level-lt : (i j : ℕ) → dbl i 1 < dbl j 1 → i < j
 level-lt i j h =
-    elim (cases-lt i j)
-        [ inl l ↦ l
-        | inr l ↦
-            let d : ℕ = i - j in
-            absurd (omega (arith, dbl-dbl j d i 1 (omega arith), dbl-mono j 1 (dbl d 1) (dbl-pos d)))
-        ]
+    elim (cases-lt i j) [
+      | inl l ↦ l
+      | inr l ↦
+          let d : ℕ = i - j in
+          absurd (omega (arith, dbl-dbl j d i 1 (omega arith), dbl-mono j 1 (dbl d 1) (dbl-pos d)))
+    ]
 
 module _ (n : ℕ) (sz : ℕ → ℕ) where
   abbrev F : ℕ → Type 0
@@ -78,46 +79,50 @@ module _ (n : ℕ) (sz : ℕ → ℕ) where
   whole-to f m h =
       let k = set-index n f m (h .0) in
       let i : ℕ = k .0 in
-      let q : ℕ = k .1 in
-      ( i, q, k .2, k .3
-      , ( free-all F i q (λ r a b. h .1 r (omega (arith, k .3, a)) (omega (arith, k .2, k .3, b)))
-        , λ z. h .2 (dbl (suc i) (q / 2)) (dbl (suc i) 1) (index-set n (suc i) (q / 2) (within (suc i) (q / 2) z))
-            (omega (arith, k .2, dbl-two i 1, dbl-pos i))
-            (omega (arith, k .3, dbl-mono i (2 * (q / 2)) q (omega arith)))
-            (omega (arith, k .2, k .3, dbl-add i q 1, dbl-add i (2 * (q / 2)) 2, dbl-mono i (q + 1) (2 * (q / 2) + 2) (omega arith)))
-            (all-free F (suc i) (q / 2) z)
-        )
+      let q : ℕ = k .1 in (
+        i,
+        q,
+        k .2,
+        k .3,
+        (
+          free-all F i q (λ r a b. h .1 r (omega (arith, k .3, a)) (omega (arith, k .2, k .3, b))),
+          λ z. h .2 (dbl (suc i) (q / 2)) (dbl (suc i) 1) (index-set n (suc i) (q / 2) (within (suc i) (q / 2) z))
+              (omega (arith, k .2, dbl-two i 1, dbl-pos i))
+              (omega (arith, k .3, dbl-mono i (2 * (q / 2)) q (omega arith)))
+              (omega (arith, k .2, k .3, dbl-add i q 1, dbl-add i (2 * (q / 2)) 2, dbl-mono i (q + 1) (2 * (q / 2) + 2) (omega arith)))
+              (all-free F (suc i) (q / 2) z),
+        ),
       )
 
   pub whole-from : (i q : ℕ) → Whole F i q → WholeSet n sz (dbl i q) (dbl i 1)
-  whole-from i q h =
-      ( index-set n i q (within i q (h .0))
-      , all-free F i q (h .0)
-      , λ g m s l a b z.
-          let k = set-index n g m s in
-          let j : ℕ = k .0 in
-          let x : ℕ = k .1 in
-          let lt : i < j = level-lt i j (omega (arith, k .2, l)) in
-          let d : ℕ = j - suc i in
-          let e : up j (dbl i q) ≡ x = in-set j x (dbl i q) (omega (arith, k .3, a)) (omega (arith, k .2, k .3, b, dbl-pos i)) in
-          let e2 : up (suc d) q ≡ x = ap (up (suc d)) (sym (up-dbl i q)) ∙ sym (up-up (suc d) i j (dbl i q) (omega arith)) ∙ e in
-          over F i j d q (omega arith) h (subst (Free F j) (sym e2)
-              (free-all F j x (λ r u v. z r (omega (arith, k .3, u)) (omega (arith, k .2, k .3, v)))))
-      )
+  whole-from i q h = (
+    index-set n i q (within i q (h .0)),
+    all-free F i q (h .0),
+    λ g m s l a b z.
+        let k = set-index n g m s in
+        let j : ℕ = k .0 in
+        let x : ℕ = k .1 in
+        let lt : i < j = level-lt i j (omega (arith, k .2, l)) in
+        let d : ℕ = j - suc i in
+        let e : up j (dbl i q) ≡ x = in-set j x (dbl i q) (omega (arith, k .3, a)) (omega (arith, k .2, k .3, b, dbl-pos i)) in
+        let e2 : up (suc d) q ≡ x = ap (up (suc d)) (sym (up-dbl i q)) ∙ sym (up-up (suc d) i j (dbl i q) (omega arith)) ∙ e in
+        over F i j d q (omega arith) h (subst (Free F j) (sym e2)
+        (free-all F j x (λ r u v. z r (omega (arith, k .3, u)) (omega (arith, k .2, k .3, v))))),
+  )
 
   -- the bridge
   pub ordered-grow : Ordered n sz → Grow F
   ordered-grow ord i j d p q e hp hq =
-      elim (cases-lt q (up d p))
-          [ inr l ↦ l
-          | inl l ↦
-              let f : ℕ = dbl i p in
-              let g : ℕ = dbl j q in
-              let a : up j f ≡ up d p = up-up d i j f e ∙ ap (up d) (up-dbl i p) in
-              let gf : g < f = elim (cases-lt g f) [ inl z ↦ z | inr z ↦ absurd (omega (arith, a, up-mono j f g z, up-dbl j q)) ] in
-              let ji = level-lt j i (ord g (dbl j 1) f (dbl i 1) (whole-from j q hq) (whole-from i p hp) gf) in
-              absurd (omega arith)
-          ]
+      elim (cases-lt q (up d p)) [
+        | inr l ↦ l
+        | inl l ↦
+            let f : ℕ = dbl i p in
+            let g : ℕ = dbl j q in
+            let a : up j f ≡ up d p = up-up d i j f e ∙ ap (up d) (up-dbl i p) in
+            let gf : g < f = elim (cases-lt g f) [ inl z ↦ z | inr z ↦ absurd (omega (arith, a, up-mono j f g z, up-dbl j q)) ] in
+            let ji = level-lt j i (ord g (dbl j 1) f (dbl i 1) (whole-from j q hq) (whole-from i p hp) gf) in
+            absurd (omega arith)
+      ]
 
   pub grow-ordered : Grow F → Ordered n sz
   grow-ordered grow f m g l hf hg lt =
@@ -127,16 +132,16 @@ module _ (n : ℕ) (sz : ℕ → ℕ) where
       let p : ℕ = a .1 in
       let j : ℕ = b .0 in
       let q : ℕ = b .1 in
-      elim (cases-lt i j)
-          [ inl h ↦ let z : 2 ^ i < 2 ^ j = pow-lt h in omega (arith, a .2, b .2, size-pow i, size-pow j)
-          | inr h ↦
-              let d : ℕ = i - j in
-              let up1 = grow j i d q p (omega arith) (b .4) (a .4) in
-              let up2 = up-mono i f g (omega arith) in
-              let z1 = ap (up i) (a .3) ∙ up-dbl i p in
-              let z2 = ap (up i) (b .3) ∙ up-up d j i (dbl j q) (omega arith) ∙ ap (up d) (up-dbl j q) in
-              absurd (same-place j i d q p (omega arith) (omega (arith, up1, up2, z1, z2)) (b .4) (a .4) (omega (arith, a .3, b .3)))
-          ]
+      elim (cases-lt i j) [
+        | inl h ↦ let z : 2 ^ i < 2 ^ j = pow-lt h in omega (arith, a .2, b .2, size-pow i, size-pow j)
+        | inr h ↦
+            let d : ℕ = i - j in
+            let up1 = grow j i d q p (omega arith) (b .4) (a .4) in
+            let up2 = up-mono i f g (omega arith) in
+            let z1 = ap (up i) (a .3) ∙ up-dbl i p in
+            let z2 = ap (up i) (b .3) ∙ up-up d j i (dbl j q) (omega arith) ∙ ap (up d) (up-dbl j q) in
+            absurd (same-place j i d q p (omega arith) (omega (arith, up1, up2, z1, z2)) (b .4) (a .4) (omega (arith, a .3, b .3)))
+      ]
     where
       same-place : (j i d q p : ℕ) → d + j ≡ i → up d q ≡ p → Whole F j q → Whole F i p → dbl i p < dbl j q → ⊥
       same-place j i zero q p e k hq hp l =
@@ -151,26 +156,26 @@ module _ (n : ℕ) (sz : ℕ → ℕ) where
   differ-distinct dif f g m hf hg =
       let a = whole-to f m hf in
       let b = whole-to g m hg in
-      let z : a .0 ≡ b .0 = elim (cases-lt (a .0) (b .0))
-          [ inl l ↦ let k : 2 ^ (a .0) < 2 ^ (b .0) = pow-lt l in absurd (omega (arith, a .2, b .2, size-pow (a .0), size-pow (b .0)))
-          | inr l ↦ elim (cases-lt (b .0) (a .0))
-              [ inl m ↦ let k : 2 ^ (b .0) < 2 ^ (a .0) = pow-lt m in absurd (omega (arith, a .2, b .2, size-pow (a .0), size-pow (b .0)))
-              | inr m ↦ omega arith
-              ]
-          ] in
+      let z : a .0 ≡ b .0 = elim (cases-lt (a .0) (b .0)) [
+        | inl l ↦ let k : 2 ^ (a .0) < 2 ^ (b .0) = pow-lt l in absurd (omega (arith, a .2, b .2, size-pow (a .0), size-pow (b .0)))
+        | inr l ↦ elim (cases-lt (b .0) (a .0)) [
+          | inl m ↦ let k : 2 ^ (b .0) < 2 ^ (a .0) = pow-lt m in absurd (omega (arith, a .2, b .2, size-pow (a .0), size-pow (b .0)))
+          | inr m ↦ omega arith
+        ]
+      ] in
       let y = dif (b .0) (a .1) (b .1) (subst (λ x. Whole F x (a .1)) z (a .4)) (b .4) in
       a .3 ∙ ap (λ x. dbl x (a .1)) z ∙ ap (dbl (b .0)) y ∙ sym (b .3)
 
 -- which indices the sets of a level have
 pub index-below : (n j a : ℕ) → j ≤ n → dbl j a + dbl j 1 ≤ 2 ^ n → a < 2 ^ (n - j)
 index-below n j a h l =
-    elim (cases-lt a (2 ^ (n - j)))
-        [ inl z ↦ z
-        | inr z ↦
-            let m = dbl-mono j (2 ^ (n - j)) a z in
-            let e : dbl j (2 ^ (n - j)) ≡ 2 ^ n = ap (dbl j) (sym (size-pow (n - j))) ∙ sym (dbl-dbl j (n - j) n 1 (omega arith)) ∙ size-pow n in
-            absurd (omega (arith, m, e, l, dbl-pos j))
-        ]
+    elim (cases-lt a (2 ^ (n - j))) [
+      | inl z ↦ z
+      | inr z ↦
+          let m = dbl-mono j (2 ^ (n - j)) a z in
+          let e : dbl j (2 ^ (n - j)) ≡ 2 ^ n = ap (dbl j) (sym (size-pow (n - j))) ∙ sym (dbl-dbl j (n - j) n 1 (omega arith)) ∙ size-pow n in
+          absurd (omega (arith, m, e, l, dbl-pos j))
+    ]
 
 pub below-index : (n j a : ℕ) → j ≤ n → a < 2 ^ (n - j) → dbl j a + dbl j 1 ≤ 2 ^ n
 below-index n j a h l =

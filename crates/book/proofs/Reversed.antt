@@ -48,6 +48,7 @@ sum-reversed (suc k) f =
         let x : 2 * q % 2 ≡ 0 = omega arith in
         let y : 2 * q / 2 ≡ q = omega arith in
         omega (arith, ap (λ b. b * 2 ^ k) x, ap (reversed k) y)
+
     odd : (q : ℕ) → reversed (suc k) (2 * q + 1) ≡ 2 ^ k + reversed k q
     odd q =
         let x : (2 * q + 1) % 2 ≡ 1 = omega arith in
@@ -65,22 +66,29 @@ total-more f first (suc m) =
 sum-row : (f : ℕ → ℕ) (first m k : ℕ) → sumBelow (λ r. cond (leb first r && ltb r (first + m)) (f r) 0) k ≡ total f first (min (k - first) m)
 sum-row f first m zero = let z : min (0 - first) m ≡ 0 = omega arith in ap (total f first) (sym z)
 sum-row f first m (suc k) =
-    elim (cases-lt k first)
-        [ inl l ↦
+    elim (cases-lt k first) [
+      | inl l ↦
+          let z : min (suc k - first) m ≡ min (k - first) m = omega arith in
+          omega (arith, ap (total f first) z, sum-row f first m k, cond-false {A = ℕ} (leb first k && ltb k (first + m)) (f k) 0 (and-left (leb first k) (ltb k (first + m)) (lt-leb first k l)))
+      | inr l ↦ elim (cases-lt k (first + m)) [
+        | inl h ↦
+            let z : min (suc k - first) m ≡ suc (k - first) = omega arith in
+            let y : min (k - first) m ≡ k - first = omega arith in
+            let w : first + (k - first) ≡ k = omega arith in
+            omega (
+              arith,
+              ap (total f first) z,
+              ap (total f first) y,
+              total-more f first (k - first),
+              ap f w,
+              sum-row f first m k,
+              cond-true {A = ℕ} (leb first k && ltb k (first + m)) (f k) 0 (and-from (leb first k) (ltb k (first + m)) (le-leb first k l) (lt-ltb k (first + m) h)),
+            )
+        | inr h ↦
             let z : min (suc k - first) m ≡ min (k - first) m = omega arith in
-            omega (arith, ap (total f first) z, sum-row f first m k, cond-false {A = ℕ} (leb first k && ltb k (first + m)) (f k) 0 (and-left (leb first k) (ltb k (first + m)) (lt-leb first k l)))
-        | inr l ↦ elim (cases-lt k (first + m))
-            [ inl h ↦
-                let z : min (suc k - first) m ≡ suc (k - first) = omega arith in
-                let y : min (k - first) m ≡ k - first = omega arith in
-                let w : first + (k - first) ≡ k = omega arith in
-                omega (arith, ap (total f first) z, ap (total f first) y, total-more f first (k - first), ap f w, sum-row f first m k
-                    , cond-true {A = ℕ} (leb first k && ltb k (first + m)) (f k) 0 (and-from (leb first k) (ltb k (first + m)) (le-leb first k l) (lt-ltb k (first + m) h)))
-            | inr h ↦
-                let z : min (suc k - first) m ≡ min (k - first) m = omega arith in
-                omega (arith, ap (total f first) z, sum-row f first m k, cond-false {A = ℕ} (leb first k && ltb k (first + m)) (f k) 0 (and-right (leb first k) (ltb k (first + m)) (le-ltb k (first + m) h)))
-            ]
-        ]
+            omega (arith, ap (total f first) z, sum-row f first m k, cond-false {A = ℕ} (leb first k && ltb k (first + m)) (f k) 0 (and-right (leb first k) (ltb k (first + m)) (le-ltb k (first + m) h)))
+      ]
+    ]
 
 pub sum-set : (f : ℕ → ℕ) (first m k : ℕ) → first + m ≤ k → sumBelow (λ r. cond (leb first r && ltb r (first + m)) (f r) 0) k ≡ total f first m
 sum-set f first m k l = let z : min (k - first) m ≡ m = omega arith in sum-row f first m k ∙ ap (total f first) z

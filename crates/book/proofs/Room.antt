@@ -1,3 +1,4 @@
+-- How many ranks are free, and that so many free ranks have a free set.
 use mathlib.Core.Path.{_≡_, refl, sym, ap, subst, _∙_}
 use mathlib.Core.Logic.{_⊎_, inl, inr, _↔_}
 use mathlib.Core.Bool.{Bool, true, false, cond, _&&_, _||_, not}
@@ -51,10 +52,10 @@ count-held : (n : ℕ) (sz : ℕ → ℕ) → Sound n sz → (m : ℕ) → count
 count-held n sz sound zero = count-none (λ r. false) (2 ^ n) (λ a l h. both-ways false refl h)
 count-held n sz sound (suc m) =
     let a = count-or (span m (sz m)) (λ r. held sz r m) (2 ^ n) (λ r x y.
-        let u = held-decides sz r m .0 y in
-        let z = span-decides sz m r .0 x in
-        let e = sound .apart (u .0) m r (u .2) z in
-        omega (arith, u .1, e)) in
+    let u = held-decides sz r m .0 y in
+    let z = span-decides sz m r .0 x in
+    let e = sound .apart (u .0) m r (u .2) z in
+    omega (arith, u .1, e)) in
     let b = count-span m (sz m) (2 ^ n) in
     let c : m + sz m ≤ 2 ^ n ⊎ (sz m ≡ 0) = elim (cases-eq (sz m) 0) [ inl e ↦ inr e | inr e ↦ inl (sound .sets m (omega arith) .2) ] in
     omega (arith, a, b, c, count-held n sz sound m)
@@ -89,7 +90,6 @@ pub count-free : (n : ℕ) (sz : ℕ → ℕ) → Sound n sz → count (vacant n
 count-free n sz sound =
     let a = count-same (vacant n sz) (λ r. not (held sz r (2 ^ n))) (2 ^ n) (λ r l. ap (λ b. b && not (held sz r (2 ^ n))) (lt-ltb r (2 ^ n) l)) in
     omega (arith, a, invert (λ r. held sz r (2 ^ n)) (2 ^ n), count-held n sz sound (2 ^ n))
-
 
 pub free-map : (F G : ℕ → Type 0) → ((r : ℕ) → F r → G r) → (i q : ℕ) → Free F i q → Free G i q
 free-map F G h zero q k = h q k
@@ -128,7 +128,7 @@ module _ (n : ℕ) (sz : ℕ → ℕ) where
   -- what B and D ask for: a set is free or not
   pub free-or-not : (i x : ℕ) → Free (FreeRank n sz) i x ⊎ (Free (FreeRank n sz) i x → ⊥)
   free-or-not i x =
-      elim (cases-bool (freeb (vacant n sz) i x))
-          [ inl h ↦ inl (real i x (free-true (vacant n sz) i x h))
-          | inr h ↦ inr (λ k. both-ways (freeb (vacant n sz) i x) h (true-free (vacant n sz) i x (seen i x k)))
-          ]
+      elim (cases-bool (freeb (vacant n sz) i x)) [
+        | inl h ↦ inl (real i x (free-true (vacant n sz) i x h))
+        | inr h ↦ inr (λ k. both-ways (freeb (vacant n sz) i x) h (true-free (vacant n sz) i x (seen i x k)))
+      ]

@@ -117,7 +117,7 @@ apart-pow n j h =
     let e : n ≡ (n - j) + j = omega arith in
     ap (λ x. 2 ^ x / 2 ^ j) e ∙ ap (λ x. x / 2 ^ j) (pow-add 2 (n - j) j) ∙ mul-div-left (2 ^ (n - j)) (pow-pos j)
 
-split-pow : (n j : ℕ) → j ≤ n → 2 ^ (n - j) * 2 ^ j ≡ 2 ^ n
+pub split-pow : (n j : ℕ) → j ≤ n → 2 ^ (n - j) * 2 ^ j ≡ 2 ^ n
 split-pow n j l = sym (pow-add 2 (n - j) j) ∙ ap (λ x. 2 ^ x) {x = n - j + j} {y = n} (omega arith)
 
 -- where a session stands: from rank f on, which are the slots of offset o
@@ -138,34 +138,49 @@ module _ (n : ℕ) (xs : Ranks) (h : Standing n xs) where
 
   spot-at : (f : ℕ) (s : Session) → getD xs f None ≡ Some s → Spot n xs s (reversed n f)
   spot-at f s e =
-      record
-        { f = f; inside = in-book f s e; stands = e; offset = refl; index = q; first = whole ∙ ap (λ y. q * y) (sym (k .size-is)); within = fits
-        ; below = subst (λ y. reversed n f < y) (sym t) (sp .below)
-        ; slots = λ z l.
-            let w = sp .slots z l in
-            ( (λ p. subst (λ y. z % y ≡ reversed n f) (sym t) (w .0 (omega (arith, p .0, whole), omega (arith, p .1, whole, k .size-is))))
-            , λ p. let r = w .1 (subst (λ y. z % y ≡ reversed n f) t p) in (omega (arith, r .0, whole), omega (arith, r .1, whole, k .size-is))
-            )
-        }
+      record {
+        f = f;
+        inside = in-book f s e;
+        stands = e;
+        offset = refl;
+        index = q;
+        first = whole ∙ ap (λ y. q * y) (sym (k .size-is));
+        within = fits;
+        below = subst (λ y. reversed n f < y) (sym t) (sp .below);
+        slots = λ z l.
+            let w = sp .slots z l in (
+              (λ p. subst (λ y. z % y ≡ reversed n f) (sym t) (w .0 (omega (arith, p .0, whole), omega (arith, p .1, whole, k .size-is)))),
+              λ p. let r = w .1 (subst (λ y. z % y ≡ reversed n f) t p) in (omega (arith, r .0, whole), omega (arith, r .1, whole, k .size-is)),
+            );
+      }
     where
       k : Fits n s
       k = h .fit f s e
+
       j : ℕ
       j = k .level
+
       size-at : sizeAt xs f ≡ s .size
       size-at = ap sizeOf e
+
       shape : Set n f (sizeAt xs f)
       shape = h .sound .sets f (omega (arith, size-at, k .size-is, pow-pos j))
+
       fits : f + s .size ≤ 2 ^ n
       fits = subst (λ y. f + y ≤ 2 ^ n) size-at (shape .2)
+
       q : ℕ
       q = f / 2 ^ j
+
       whole : f ≡ q * 2 ^ j
       whole = let z : f % 2 ^ j ≡ 0 = subst (λ y. f % y ≡ 0) (size-at ∙ k .size-is) (shape .1) in omega (arith, div-add-mod' f (2 ^ j))
+
       low : q < 2 ^ (n - j)
       low = div-lt-iff-lt-mul {k = 2 ^ j} {x = f} {y = 2 ^ (n - j)} (pow-pos j) .1 (omega (arith, split-pow n j (k .low), fits, k .size-is, pow-pos j))
+
       sp : Spaced n j q (reversed n f)
       sp = offset-of-set n f j q (k .low) low whole
+
       t : spacingOf n s ≡ 2 ^ (n - j)
       t = ap (λ y. 2 ^ n / y) (k .size-is) ∙ apart-pow n j (k .low)
 
@@ -190,19 +205,21 @@ module _ (n : ℕ) (xs : Ranks) (h : Standing n xs) where
     where
       w : ℕ → ℕ
       w r = weightAt (grantOf s) (s .size) r
+
       row : ℕ → Bool
       row r = leb (sp .f) r && ltb r (sp .f + s .size)
+
       same : (z : ℕ) → z < 2 ^ n → (z % spacingOf n s ≡ o) ⊎ (z % spacingOf n s ≡ o → ⊥) → eqb (z % spacingOf n s) o ≡ row (reversed n z)
       same z l (inl e) =
           let r = sp .slots z l .1 e in
           eq-eqb (z % spacingOf n s) o e ∙ sym (and-from (leb (sp .f) (reversed n z)) (ltb (reversed n z) (sp .f + s .size)) (le-leb (sp .f) (reversed n z) (r .0)) (lt-ltb (reversed n z) (sp .f + s .size) (r .1)))
       same z l (inr ne) =
-          ne-eqb (z % spacingOf n s) o ne ∙ sym (elim (cases-bool (row (reversed n z)))
-              [ inl y ↦
-                  let p = and-parts (leb (sp .f) (reversed n z)) (ltb (reversed n z) (sp .f + s .size)) y in
-                  absurd (ne (sp .slots z l .0 (leb-true (sp .f) (reversed n z) (p .0), ltb-true (reversed n z) (sp .f + s .size) (p .1))))
-              | inr y ↦ y
-              ])
+          ne-eqb (z % spacingOf n s) o ne ∙ sym (elim (cases-bool (row (reversed n z))) [
+            | inl y ↦
+                let p = and-parts (leb (sp .f) (reversed n z)) (ltb (reversed n z) (sp .f + s .size)) y in
+                absurd (ne (sp .slots z l .0 (leb-true (sp .f) (reversed n z) (p .0), ltb-true (reversed n z) (sp .f + s .size) (p .1))))
+            | inr y ↦ y
+          ])
 
   module _ (live : List Session) (same : SameSessions live (sessionsOf xs)) where
     sums : (g : Session → ℕ) → sumBy g live ≡ sumBy (opt g) xs
@@ -224,7 +241,7 @@ module _ (n : ℕ) (xs : Ranks) (h : Standing n xs) where
         let r = sum-part (is s) live noSession (omega (arith, sums (is s), getD-le-sumBy (opt (is s)) xs f None (in-book f s e), ap (opt (is s)) e, is-one s)) in
         (r .0, r .1, sym (is-eq s (at (r .0)) (r .2)))
 
-    fit-at : (i : ℕ) → i < length live → Fits n (at i)
+    pub fit-at : (i : ℕ) → i < length live → Fits n (at i)
     fit-at i l = let sp = spot i l .1 in h .fit (sp .f) (at i) (sp .stands)
 
     -- no number is listed twice
@@ -284,35 +301,35 @@ module _ (n : ℕ) (xs : Ranks) (h : Standing n xs) where
 
     pub placed-in : Placed n xs live (contents n xs)
     placed-in =
-        record
-          { offsets = picks .0
-          ; even = record
-              { same = picks .1 ∙ sym (length-map live (spacingOf n))
-              ; inside = λ i l. subst (λ y. getD (picks .0) i 0 < y) (sym (spacing-at i (fewer i l))) (sp i (fewer i l) .below)
-              ; apart = λ i j z l m low x y. same-session i j z (fewer i l) (fewer j m) low x y
-              }
-          ; sets = λ i l. (sp i l .f, sp i l .stands, sp i l .offset)
-          ; lane = λ i z l low e. ap (λ (c : Slot). c .lane) (here i z l low e)
-          ; weight = λ i z l low e. ap (λ (c : Slot). c .weight) (here i z l low e)
-          ; granted = λ i l.
+        record {
+          offsets = picks .0;
+          even = record {
+            same = picks .1 ∙ sym (length-map live (spacingOf n));
+            inside = λ i l. subst (λ y. getD (picks .0) i 0 < y) (sym (spacing-at i (fewer i l))) (sp i (fewer i l) .below);
+            apart = λ i j z l m low x y. same-session i j z (fewer i l) (fewer j m) low x y;
+          };
+          sets = λ i l. (sp i l .f, sp i l .stands, sp i l .offset);
+          lane = λ i z l low e. ap (λ (c : Slot). c .lane) (here i z l low e);
+          weight = λ i z l low e. ap (λ (c : Slot). c .weight) (here i z l low e);
+          granted = λ i l.
               sum-same (2 ^ n) (λ z. cond (eqb (z % getD (spacings n live) i 0) (getD (picks .0) i 0)) (getD (contents n xs) z emptySlot .weight) 0)
-                  (λ z. cond (eqb (z % spacingOf n (at i)) (getD (picks .0) i 0)) (weightAt (grantOf (at i)) (at i .size) (reversed n z)) 0) (λ z low. each i l z low (cases-eq (z % getD (spacings n live) i 0) (getD (picks .0) i 0)))
-              ∙ weights-add (at i) (getD (picks .0) i 0) (fit-at i l) (sp i l)
-          ; empty = λ z low none. slot-is z low ∙ nobody z low none (holderFrom 0 xs (reversed n z)) refl
-          }
+              (λ z. cond (eqb (z % spacingOf n (at i)) (getD (picks .0) i 0)) (weightAt (grantOf (at i)) (at i .size) (reversed n z)) 0) (λ z low. each i l z low (cases-eq (z % getD (spacings n live) i 0) (getD (picks .0) i 0)))
+              ∙ weights-add (at i) (getD (picks .0) i 0) (fit-at i l) (sp i l);
+          empty = λ z low none. slot-is z low ∙ nobody z low none (holderFrom 0 xs (reversed n z)) refl;
+        }
       where
         each : (i : ℕ) → i < length live → (z : ℕ) → z < 2 ^ n → (z % getD (spacings n live) i 0 ≡ getD (picks .0) i 0) ⊎ (z % getD (spacings n live) i 0 ≡ getD (picks .0) i 0 → ⊥)
             → cond (eqb (z % getD (spacings n live) i 0) (getD (picks .0) i 0)) (getD (contents n xs) z emptySlot .weight) 0
-              ≡ cond (eqb (z % spacingOf n (at i)) (getD (picks .0) i 0)) (weightAt (grantOf (at i)) (at i .size) (reversed n z)) 0
+            ≡ cond (eqb (z % spacingOf n (at i)) (getD (picks .0) i 0)) (weightAt (grantOf (at i)) (at i .size) (reversed n z)) 0
         each i l z low (inl e) =
             cond-true {A = ℕ} (eqb (z % getD (spacings n live) i 0) (getD (picks .0) i 0)) (getD (contents n xs) z emptySlot .weight) 0 (eq-eqb (z % getD (spacings n live) i 0) (getD (picks .0) i 0) e)
             ∙ ap (λ (c : Slot). c .weight) (here i z l low e)
             ∙ sym (cond-true {A = ℕ} (eqb (z % spacingOf n (at i)) (getD (picks .0) i 0)) (weightAt (grantOf (at i)) (at i .size) (reversed n z)) 0
-                (eq-eqb (z % spacingOf n (at i)) (getD (picks .0) i 0) (sym (ap (λ y. z % y) (spacing-at i l)) ∙ e)))
+            (eq-eqb (z % spacingOf n (at i)) (getD (picks .0) i 0) (sym (ap (λ y. z % y) (spacing-at i l)) ∙ e)))
         each i l z low (inr ne) =
             cond-false {A = ℕ} (eqb (z % getD (spacings n live) i 0) (getD (picks .0) i 0)) (getD (contents n xs) z emptySlot .weight) 0 (ne-eqb (z % getD (spacings n live) i 0) (getD (picks .0) i 0) ne)
             ∙ sym (cond-false {A = ℕ} (eqb (z % spacingOf n (at i)) (getD (picks .0) i 0)) (weightAt (grantOf (at i)) (at i .size) (reversed n z)) 0
-                (ne-eqb (z % spacingOf n (at i)) (getD (picks .0) i 0) (λ e. ne (ap (λ y. z % y) (spacing-at i l) ∙ e))))
+            (ne-eqb (z % spacingOf n (at i)) (getD (picks .0) i 0) (λ e. ne (ap (λ y. z % y) (spacing-at i l) ∙ e))))
 
 pub placed-law : (n : ℕ) (xs : Ranks) → Standing n xs → PlacedLaw n xs (contents n xs)
 placed-law n xs h live same = placed-in n xs h live same

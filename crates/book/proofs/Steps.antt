@@ -1,3 +1,4 @@
+-- What fill-in, release, joining and ordering do to the entries of a book, one step each.
 use mathlib.Core.Path.{_≡_, refl, sym, ap, subst, _∙_}
 use mathlib.Core.Logic.{_⊎_, inl, inr, _≢_}
 use mathlib.Core.List.{List}
@@ -33,8 +34,7 @@ host n xs j q l h =
 
 -- Fill-in
 module _ (n j q : ℕ) (xs : Ranks) (h : Session) (len : 2 ^ n ≤ length xs) (low : j ≤ n) (size : h .size ≡ 2 ^ j)
-  (sound : Sound n (sizeAt xs)) (free : Free (FreeIn n xs) j q) (least : (a : ℕ) → Free (FreeIn n xs) j a → q ≤ a) where
-
+    (sound : Sound n (sizeAt xs)) (free : Free (FreeIn n xs) j q) (least : (a : ℕ) → Free (FreeIn n xs) j a → q ≤ a) where
   filled-new : sizeAt (set xs (dbl j q) (Some h)) (dbl j q) ≡ dbl j 1
   filled-new =
       ap sizeOf (getD-set-same xs (dbl j q) (Some h) None (omega (arith, within n (sizeAt xs) j q free, dbl-pos j)))
@@ -52,14 +52,13 @@ module _ (n j q : ℕ) (xs : Ranks) (h : Session) (len : 2 ^ n ≤ length xs) (l
       let t = host n xs j q low free in
       grow-ordered n (sizeAt ys)
       (fill (FreeIn n xs) (FreeIn n ys) (free-or-not n (sizeAt xs)) j q least
-        (taken-to n (sizeAt xs) (sizeAt ys) j q sound free filled-new filled-same)
-        (taken-from n (sizeAt xs) (sizeAt ys) j q sound free filled-new filled-same)
-        (t .0) (t .0 + j) refl (t .2) (ordered-grow n (sizeAt xs) ord))
+      (taken-to n (sizeAt xs) (sizeAt ys) j q sound free filled-new filled-same)
+      (taken-from n (sizeAt xs) (sizeAt ys) j q sound free filled-new filled-same)
+      (t .0) (t .0 + j) refl (t .2) (ordered-grow n (sizeAt xs) ord))
 
 -- Release
 module _ (n f j a : ℕ) (xs : Ranks) (len : 2 ^ n ≤ length xs) (at : f ≡ dbl j a) (size : sizeAt xs f ≡ dbl j 1) (lt : f < 2 ^ n)
-  (sound : Sound n (sizeAt xs)) where
-
+    (sound : Sound n (sizeAt xs)) where
   gone : sizeAt (set xs f None) f ≡ 0
   gone = ap sizeOf (getD-set-same xs f None None (omega arith))
 
@@ -88,9 +87,8 @@ module _ (n f j a : ℕ) (xs : Ranks) (len : 2 ^ n ≤ length xs) (at : f ≡ db
 
 -- Exchange: two sets, each with a free rank in its double
 module _ (n k s p q : ℕ) (xs ys : Ranks) (levels : k + s ≡ n) (hp : p < dbl k 1) (hq : q < dbl k 1)
-  (sound : Sound n (sizeAt xs)) (swapped : Swapped (dbl s p) (dbl s q) (dbl s 1) xs ys)
-  (a b : ℕ) (fa : FreeIn n xs a) (ea : up (suc s) a ≡ p / 2) (fb : FreeIn n xs b) (eb : up (suc s) b ≡ q / 2) where
-
+    (sound : Sound n (sizeAt xs)) (swapped : Swapped (dbl s p) (dbl s q) (dbl s 1) xs ys)
+    (a b : ℕ) (fa : FreeIn n xs a) (ea : up (suc s) a ≡ p / 2) (fb : FreeIn n xs b) (eb : up (suc s) b ≡ q / 2) where
   sized : (r : ℕ) → sizeAt ys r ≡ sizeAt xs (sw p q s r)
   sized r = ap sizeOf (swapped-sw p q s xs ys swapped r)
 
@@ -106,10 +104,10 @@ module _ (n k s p q : ℕ) (xs ys : Ranks) (levels : k + s ≡ n) (hp : p < dbl 
 -- where sets are
 pub level-in : (n : ℕ) (xs : Ranks) (s p : ℕ) → Free (FreeIn n xs) s p → s ≤ n
 level-in n xs s p h =
-    elim (cases-lt n s)
-        [ inr l ↦ l
-        | inl l ↦ absurd (bounded (FreeIn n xs) n (dbl (s - suc n) p) (table n (sizeAt xs)) (free-part (FreeIn n xs) (s - suc n) (suc n) s p (omega arith) h))
-        ]
+    elim (cases-lt n s) [
+      | inr l ↦ l
+      | inl l ↦ absurd (bounded (FreeIn n xs) n (dbl (s - suc n) p) (table n (sizeAt xs)) (free-part (FreeIn n xs) (s - suc n) (suc n) s p (omega arith) h))
+    ]
 
 pub index-in : (n : ℕ) (xs : Ranks) (s p : ℕ) → Free (FreeIn n xs) s p → p < dbl (n - s) 1
 index-in n xs s p h = omega (arith, index-below n s p (level-in n xs s p h) (within n (sizeAt xs) s p h), size-pow (n - s))
@@ -119,24 +117,23 @@ in-table n s q l h = below-index n s q l (omega (arith, size-pow (n - s)))
 
 pub sets-apart : (s p q : ℕ) → (p ≡ q → ⊥) → (dbl s p + dbl s 1 ≤ dbl s q) ⊎ (dbl s q + dbl s 1 ≤ dbl s p)
 sets-apart s p q n =
-    elim (cases-lt p q)
-        [ inl l ↦ inl (omega (arith, dbl-mono s (p + 1) q (omega arith), dbl-add s p 1))
-        | inr l ↦ inr (omega (arith, dbl-mono s (q + 1) p (omega arith), dbl-add s q 1))
-        ]
+    elim (cases-lt p q) [
+      | inl l ↦ inl (omega (arith, dbl-mono s (p + 1) q (omega arith), dbl-add s p 1))
+      | inr l ↦ inr (omega (arith, dbl-mono s (q + 1) p (omega arith), dbl-add s q 1))
+    ]
 
 -- Joining: the start set p and the other's brother q
 module _ (n s p o q : ℕ) (xs : Ranks) (start : Whole (FreeIn n xs) s p) (other : Whole (FreeIn n xs) s o)
-  (apart : o ≡ p → ⊥) (near : q / 2 ≡ o / 2) (brother : q ≡ o → ⊥) where
-
+    (apart : o ≡ p → ⊥) (near : q / 2 ≡ o / 2) (brother : q ≡ o → ⊥) where
   pub join-low : s < n
   join-low =
-      elim (cases-lt s n)
-          [ inl l ↦ l
-          | inr l ↦
-              let z : n - s ≡ 0 = omega arith in
-              let e = ap (λ x. dbl x 1) z in
-              absurd (apart (omega (arith, e, index-in n xs s p (start .0), index-in n xs s o (other .0))))
-          ]
+      elim (cases-lt s n) [
+        | inl l ↦ l
+        | inr l ↦
+            let z : n - s ≡ 0 = omega arith in
+            let e = ap (λ x. dbl x 1) z in
+            absurd (apart (omega (arith, e, index-in n xs s p (start .0), index-in n xs s o (other .0))))
+      ]
 
   pub join-in : q < dbl (n - s) 1
   join-in =
@@ -234,6 +231,7 @@ up-pow i r =
   where
     z : (dbl i (up i r) ≤ r) × (r < dbl i (up i r) + dbl i 1)
     z = set-in i (up i r) r refl
+
     e : r ≡ up i r * 2 ^ i + (r - dbl i (up i r))
     e = omega (arith, dbl-pow i (up i r), z .0)
 
@@ -245,18 +243,18 @@ module _ (n s : ℕ) (xs : Ranks) (differ : Differ (FreeIn n xs)) (grow : GrowFr
   pub skip-loose : ((a : ℕ) → FreeIn n xs a → (Free (FreeIn n xs) s (up s a) → ⊥) → ⊥) → GrowFrom (FreeIn n xs) s
   skip-loose none =
       order-skip (FreeIn n xs) s differ grow (λ p i c z h e k.
-          let t = whole-loose (FreeIn n xs) s i c z e k in absurd (none (dbl i z) (t .0) (t .1)))
+      let t = whole-loose (FreeIn n xs) s i c z e k in absurd (none (dbl i z) (t .0) (t .1)))
 
   pub skip-left : (p r : ℕ) → Whole (FreeIn n xs) s p → ((a : ℕ) → FreeIn n xs a → (Free (FreeIn n xs) s (up s a) → ⊥) → a ≤ r) → up s r ≤ p → GrowFrom (FreeIn n xs) s
   skip-left p r w last le =
       order-skip (FreeIn n xs) s differ grow (λ y i c z h e k.
-          omega (arith, loose-last (FreeIn n xs) s r last i c z e k, differ s y p h w, le))
+      omega (arith, loose-last (FreeIn n xs) s r last i c z e k, differ s y p h w, le))
 
 -- the set around a rank is in the table
 pub rank-in : (n s r q : ℕ) → s ≤ n → r < 2 ^ n → q ≡ up s r → dbl s q + dbl s 1 ≤ 2 ^ n
 rank-in n s r q l h e =
     in-table n s q l (subst (λ x. x < dbl (n - s) 1) (sym e)
-        (below-up (n - s) (up s r) (sym (up-up (n - s) s n r (omega arith)) ∙ up-below n r (omega (arith, size-pow n)))))
+    (below-up (n - s) (up s r) (sym (up-up (n - s) s n r (omega arith)) ∙ up-below n r (omega (arith, size-pow n)))))
 
 pub dbl-grows : (s p : ℕ) → p ≤ dbl s p
 dbl-grows zero p = omega arith
@@ -267,18 +265,18 @@ pub session-at : (n : ℕ) (xs : Ranks) (f j : ℕ) → Sound n (sizeAt xs) → 
 session-at n xs f j sound e =
     let s = sound .sets f (omega (arith, pow-pos j)) in
     let t = set-index n f (sizeAt xs f) s in
-    let k : t .0 ≡ j = elim (cases-lt (t .0) j)
-        [ inl l ↦ let z : 2 ^ (t .0) < 2 ^ j = pow-lt l in absurd (omega (arith, t .2, size-pow (t .0)))
-        | inr l ↦ elim (cases-lt j (t .0))
-            [ inl m ↦ let z : 2 ^ j < 2 ^ (t .0) = pow-lt m in absurd (omega (arith, t .2, size-pow (t .0)))
-            | inr m ↦ omega arith
-            ]
-        ] in
-    let y : f ≡ dbl j (t .1) = t .3 ∙ ap (λ x. dbl x (t .1)) k in
-    ( y ∙ ap (dbl j) (sym (ap (up j) y ∙ up-dbl j (t .1)))
-    , e ∙ sym (size-pow j)
-    , omega (arith, s .2, pow-pos j)
-    , elim (cases-lt n j) [ inl l ↦ let z : 2 ^ n < 2 ^ j = pow-lt l in absurd (omega (arith, s .2)) | inr l ↦ l ]
+    let k : t .0 ≡ j = elim (cases-lt (t .0) j) [
+      | inl l ↦ let z : 2 ^ (t .0) < 2 ^ j = pow-lt l in absurd (omega (arith, t .2, size-pow (t .0)))
+      | inr l ↦ elim (cases-lt j (t .0)) [
+        | inl m ↦ let z : 2 ^ j < 2 ^ (t .0) = pow-lt m in absurd (omega (arith, t .2, size-pow (t .0)))
+        | inr m ↦ omega arith
+      ]
+    ] in
+    let y : f ≡ dbl j (t .1) = t .3 ∙ ap (λ x. dbl x (t .1)) k in (
+      y ∙ ap (dbl j) (sym (ap (up j) y ∙ up-dbl j (t .1))),
+      e ∙ sym (size-pow j),
+      omega (arith, s .2, pow-pos j),
+      elim (cases-lt n j) [ inl l ↦ let z : 2 ^ n < 2 ^ j = pow-lt l in absurd (omega (arith, s .2)) | inr l ↦ l ],
     )
 
 pub grow-at : (n : ℕ) (xs : Ranks) (a b : ℕ) → a ≡ b → GrowFrom (FreeIn n xs) a → GrowFrom (FreeIn n xs) b
@@ -300,10 +298,10 @@ lowest-first n xs j q f e least g s free =
 pub total-change : (sz tz : ℕ → ℕ) (f m : ℕ) → ((r : ℕ) → (r ≡ f → ⊥) → tz r ≡ sz r) → f < m → total tz m + sz f ≡ total sz m + tz f
 total-change sz tz f zero same l = absurd (omega arith)
 total-change sz tz f (suc m) same l =
-    elim (cases-eq f m)
-        [ inl e ↦ omega (arith, ap sz e, ap tz e, total-same sz tz m (λ r k. same r (λ z. omega arith)))
-        | inr n ↦ omega (arith, same m (λ z. n (sym z)), total-change sz tz f m same (omega arith))
-        ]
+    elim (cases-eq f m) [
+      | inl e ↦ omega (arith, ap sz e, ap tz e, total-same sz tz m (λ r k. same r (λ z. omega arith)))
+      | inr n ↦ omega (arith, same m (λ z. n (sym z)), total-change sz tz f m same (omega arith))
+    ]
   where
     total-same : (sz tz : ℕ → ℕ) (m : ℕ) → ((r : ℕ) → r < m → tz r ≡ sz r) → total tz m ≡ total sz m
     total-same sz tz zero h = refl

@@ -1,3 +1,4 @@
+-- An exchange of sets, told by the sizes of the sessions: they still hold disjoint sets.
 use mathlib.Core.Path.{_≡_, refl, sym, ap, subst, _∙_}
 use mathlib.Core.Logic.{_⊎_, inl, inr, _↔_}
 use Prim.Native.Nat.{ℕ, zero, suc, _+_, _*_, _/_, _%_, _-_, _^_, _<_, _≤_}
@@ -33,22 +34,23 @@ below-up (suc i) x h = omega (arith, below-up i (x / 2) h, dbl-two i 1)
 pub sw-below : (p q k s n r : ℕ) → k + s ≡ n → p < dbl k 1 → q < dbl k 1 → r < dbl n 1 → sw p q s r < dbl n 1
 sw-below p q k s n r e hp hq h =
     below-up n (sw p q s r)
-    ( up-up k s n (sw p q s r) e
+    (up-up k s n (sw p q s r) e
     ∙ ap (up k) (up-sw p q s r)
     ∙ go
     )
   where
     zr : up k (up s r) ≡ 0
     zr = sym (up-up k s n r e) ∙ up-below n r h
+
     go : up k (sw p q 0 (up s r)) ≡ 0
     go =
-        elim (cases-eq (up s r) p)
-            [ inl z ↦ ap (λ x. up k (sw p q 0 x)) z ∙ ap (up k) (tr-left p q) ∙ up-below k q hq
-            | inr a ↦ elim (cases-eq (up s r) q)
-                [ inl z ↦ ap (λ x. up k (sw p q 0 x)) z ∙ ap (up k) (tr-right p q) ∙ up-below k p hp
-                | inr b ↦ ap (up k) (tr-other p q (up s r) a b) ∙ zr
-                ]
-            ]
+        elim (cases-eq (up s r) p) [
+          | inl z ↦ ap (λ x. up k (sw p q 0 x)) z ∙ ap (up k) (tr-left p q) ∙ up-below k q hq
+          | inr a ↦ elim (cases-eq (up s r) q) [
+            | inl z ↦ ap (λ x. up k (sw p q 0 x)) z ∙ ap (up k) (tr-right p q) ∙ up-below k p hp
+            | inr b ↦ ap (up k) (tr-other p q (up s r) a b) ∙ zr
+          ]
+        ]
 
 pub held-up : (sz : ℕ → ℕ) (f i y r : ℕ) → f ≡ dbl i y → sz f ≡ dbl i 1 → Holds sz f r → up i r ≡ y
 held-up sz f i y r e k h = in-set i y r (omega (arith, h .0)) (omega (arith, h .1))
@@ -64,9 +66,8 @@ below n sz sound f r h =
 
 -- The exchange of the sets p and q of level s, neither of them inside a session: tz is the book after.
 module _ (n k s p q : ℕ) (table : k + s ≡ n) (hp : p < dbl k 1) (hq : q < dbl k 1)
-  (sz tz : ℕ → ℕ) (sound : Sound n sz) (swapped : (r : ℕ) → tz r ≡ sz (sw p q s r))
-  (a b : ℕ) (free-a : FreeRank n sz a) (at-a : up (suc s) a ≡ p / 2) (free-b : FreeRank n sz b) (at-b : up (suc s) b ≡ q / 2) where
-
+    (sz tz : ℕ → ℕ) (sound : Sound n sz) (swapped : (r : ℕ) → tz r ≡ sz (sw p q s r))
+    (a b : ℕ) (free-a : FreeRank n sz a) (at-a : up (suc s) a ≡ p / 2) (free-b : FreeRank n sz b) (at-b : up (suc s) b ≡ q / 2) where
   -- no session around a set whose double has a free rank
   uncut : (r x : ℕ) → FreeRank n sz r → up (suc s) r ≡ x / 2 → (i f y c : ℕ) → f ≡ dbl i y → sz f ≡ dbl i 1 → suc c + s ≡ i → up (suc c) x ≡ y → ⊥
   uncut r x free e i f y c fy size v h =
@@ -84,35 +85,35 @@ module _ (n k s p q : ℕ) (table : k + s ≡ n) (hp : p < dbl k 1) (hq : q < db
   At f i y = (f ≡ dbl i y) × (sz (sw p q s f) ≡ dbl i 1) × ((r : ℕ) → (up i r ≡ y) ↔ Holds sz (sw p q s f) (sw p q s r))
 
   at-small : (f i y d : ℕ) → d + i ≡ s → sw p q s f ≡ dbl i y → sz (sw p q s f) ≡ dbl i 1 → At f i (sw p q d y)
-  at-small f i y d v e size =
-      ( sym (sw-sw p q s f) ∙ ap (sw p q s) e ∙ sw-dbl p q d i s y v
-      , size
-      , λ r.
-          ( (λ h. up-held sz (sw p q s f) i y (sw p q s r) e size (up-sw-part p q d i s r v ∙ ap (sw p q d) h ∙ sw-sw p q d y))
-          , (λ h. sym (sw-sw p q d (up i r)) ∙ ap (sw p q d) (sym (up-sw-part p q d i s r v) ∙ held-up sz (sw p q s f) i y (sw p q s r) e size h))
-          )
-      )
+  at-small f i y d v e size = (
+    sym (sw-sw p q s f) ∙ ap (sw p q s) e ∙ sw-dbl p q d i s y v,
+    size,
+    λ r. (
+      (λ h. up-held sz (sw p q s f) i y (sw p q s r) e size (up-sw-part p q d i s r v ∙ ap (sw p q d) h ∙ sw-sw p q d y)),
+      (λ h. sym (sw-sw p q d (up i r)) ∙ ap (sw p q d) (sym (up-sw-part p q d i s r v) ∙ held-up sz (sw p q s f) i y (sw p q s r) e size h)),
+    ),
+  )
 
   at-large : (f i y c : ℕ) → suc c + s ≡ i → sw p q s f ≡ dbl i y → sz (sw p q s f) ≡ dbl i 1 → At f i y
   at-large f i y c v e size =
-      let z : f ≡ sw p q s f = sym (sw-sw p q s f) ∙ fixed i (sw p q s f) y c e size v (sw p q s f) (ap (up i) e ∙ up-dbl i y) in
-      ( z ∙ e
-      , size
-      , λ r.
-          ( (λ h. up-held sz (sw p q s f) i y (sw p q s r) e size (ap (up i) (fixed i (sw p q s f) y c e size v r h) ∙ h))
-          , (λ h.
+      let z : f ≡ sw p q s f = sym (sw-sw p q s f) ∙ fixed i (sw p q s f) y c e size v (sw p q s f) (ap (up i) e ∙ up-dbl i y) in (
+        z ∙ e,
+        size,
+        λ r. (
+          (λ h. up-held sz (sw p q s f) i y (sw p q s r) e size (ap (up i) (fixed i (sw p q s f) y c e size v r h) ∙ h)),
+          (λ h.
               let k = held-up sz (sw p q s f) i y (sw p q s r) e size h in
-              ap (up i) (sym (sw-sw p q s r) ∙ fixed i (sw p q s f) y c e size v (sw p q s r) k) ∙ k)
-          )
+              ap (up i) (sym (sw-sw p q s r) ∙ fixed i (sw p q s f) y c e size v (sw p q s r) k) ∙ k),
+        ),
       )
 
   session : (f : ℕ) → 0 < sz (sw p q s f) → (i y : ℕ) × At f i y
   session f pos =
       let t = set-index n (sw p q s f) (sz (sw p q s f)) (sound .sets (sw p q s f) pos) in
-      elim (cases-lt s (t .0))
-          [ inl l ↦ (t .0, t .1, at-large f (t .0) (t .1) (t .0 - suc s) (omega arith) (t .3) (t .2))
-          | inr l ↦ (t .0, sw p q (s - t .0) (t .1), at-small f (t .0) (t .1) (s - t .0) (omega arith) (t .3) (t .2))
-          ]
+      elim (cases-lt s (t .0)) [
+        | inl l ↦ (t .0, t .1, at-large f (t .0) (t .1) (t .0 - suc s) (omega arith) (t .3) (t .2))
+        | inr l ↦ (t .0, sw p q (s - t .0) (t .1), at-small f (t .0) (t .1) (s - t .0) (omega arith) (t .3) (t .2))
+      ]
 
   -- who holds what
   pub holds-to : (f r : ℕ) → Holds tz f r → Holds sz (sw p q s f) (sw p q s r)
@@ -136,10 +137,10 @@ module _ (n k s p q : ℕ) (table : k + s ≡ n) (hp : p < dbl k 1) (hq : q < db
 
   -- the ranks that are free then
   pub free-to : (r : ℕ) → FreeRank n tz r → FreeRank n sz (sw p q s r)
-  free-to r h =
-      ( inside r (h .0)
-      , λ f z. h .1 (sw p q s f) (holds-from (sw p q s f) r (subst (λ x. Holds sz x (sw p q s r)) (sym (sw-sw p q s f)) z))
-      )
+  free-to r h = (
+    inside r (h .0),
+    λ f z. h .1 (sw p q s f) (holds-from (sw p q s f) r (subst (λ x. Holds sz x (sw p q s r)) (sym (sw-sw p q s f)) z)),
+  )
 
   pub free-from : (r : ℕ) → FreeRank n sz (sw p q s r) → FreeRank n tz r
   free-from r h = (outside r (h .0), λ f z. h .1 (sw p q s f) (holds-to f r z))
@@ -147,17 +148,17 @@ module _ (n k s p q : ℕ) (table : k + s ≡ n) (hp : p < dbl k 1) (hq : q < db
   -- sessions hold disjoint sets, of the sizes that they had
   pub exchanged : Sound n tz
   exchanged =
-      record
-        { sets = λ f pos.
+      record {
+        sets = λ f pos.
             let t = session f (omega (arith, swapped f)) in
             let i : ℕ = t .0 in
             let y : ℕ = t .1 in
             let k = t .2 in
             let top : ℕ = dbl i y + dbl i 1 - 1 in
             let lt = outside top (below n sz sound (sw p q s f) (sw p q s top)
-                (k .2 top .0 (in-set i y top (omega (arith, dbl-pos i)) (omega (arith, dbl-pos i))))) in
+            (k .2 top .0 (in-set i y top (omega (arith, dbl-pos i)) (omega (arith, dbl-pos i))))) in
             let m : tz f ≡ dbl i 1 = swapped f ∙ k .1 in
-            subst (λ x. Set n x (tz f)) (sym (k .0)) (subst (Set n (dbl i y)) (sym m) (index-set n i y (omega (arith, lt, dbl-pos i))))
-        ; apart = λ f g r x y.
-            sym (sw-sw p q s f) ∙ ap (sw p q s) (sound .apart (sw p q s f) (sw p q s g) (sw p q s r) (holds-to f r x) (holds-to g r y)) ∙ sw-sw p q s g
-        }
+            subst (λ x. Set n x (tz f)) (sym (k .0)) (subst (Set n (dbl i y)) (sym m) (index-set n i y (omega (arith, lt, dbl-pos i))));
+        apart = λ f g r x y.
+            sym (sw-sw p q s f) ∙ ap (sw p q s) (sound .apart (sw p q s f) (sw p q s g) (sw p q s r) (holds-to f r x) (holds-to g r y)) ∙ sw-sw p q s g;
+      }

@@ -47,10 +47,10 @@ decides-leb a b = (leb-true a b, le-leb a b)
 -- powers of two
 pub pow-same : (i j : ℕ) → 2 ^ i ≡ 2 ^ j → i ≡ j
 pow-same i j e =
-    elim (cases-lt i j)
-        [ inl l ↦ let z : 2 ^ i < 2 ^ j = pow-lt l in absurd (omega arith)
-        | inr l ↦ elim (cases-lt j i) [ inl m ↦ let z : 2 ^ j < 2 ^ i = pow-lt m in absurd (omega arith) | inr m ↦ omega arith ]
-        ]
+    elim (cases-lt i j) [
+      | inl l ↦ let z : 2 ^ i < 2 ^ j = pow-lt l in absurd (omega arith)
+      | inr l ↦ elim (cases-lt j i) [ inl m ↦ let z : 2 ^ j < 2 ^ i = pow-lt m in absurd (omega arith) | inr m ↦ omega arith ]
+    ]
 
 pub pow-low : (i n : ℕ) → 2 ^ i ≤ 2 ^ n → i ≤ n
 pow-low i n h = elim (cases-lt n i) [ inl l ↦ let z : 2 ^ n < 2 ^ i = pow-lt l in absurd (omega arith) | inr l ↦ l ]
@@ -60,7 +60,7 @@ level-is n m i l e = go (levelFor n m) refl (first-cases (λ i. eqb (2 ^ i) m) 0
   where
     go : (o : Option ℕ) → o ≡ levelFor n m
         → Cases (levelFor n m) ((a : ℕ) → 0 ≤ a → a < 0 + suc n → eqb (2 ^ a) m ≡ true → ⊥)
-            (λ a. (eqb (2 ^ a) m ≡ true) × (a < 0 + suc n) × ((b : ℕ) → 0 ≤ b → b < a → eqb (2 ^ b) m ≡ true → ⊥))
+        (λ a. (eqb (2 ^ a) m ≡ true) × (a < 0 + suc n) × ((b : ℕ) → 0 ≤ b → b < a → eqb (2 ^ b) m ≡ true → ⊥))
         → levelFor n m ≡ Some i
     go None d t = absurd (subst (λ o. Cases o ((a : ℕ) → 0 ≤ a → a < 0 + suc n → eqb (2 ^ a) m ≡ true → ⊥)
         (λ a. (eqb (2 ^ a) m ≡ true) × (a < 0 + suc n) × ((b : ℕ) → 0 ≤ b → b < a → eqb (2 ^ b) m ≡ true → ⊥))) (sym d) t i (omega arith) (omega arith) (eq-eqb (2 ^ i) m (sym e)))
@@ -68,18 +68,18 @@ level-is n m i l e = go (levelFor n m) refl (first-cases (λ i. eqb (2 ^ i) m) 0
 
 -- sessions that a book takes
 pub fits-decides : (n : ℕ) (s : Session) → Decides (fits n s) (Fits n s)
-fits-decides n s =
-    ( (λ h.
-        let p = and-parts (isSome (levelFor n (s .size))) (leb 1 (s .weight) && (leb (s .weight) (mostWeight * s .size) && ltb (s .lane) laneCount)) h in
-        let q = and-parts (leb 1 (s .weight)) (leb (s .weight) (mostWeight * s .size) && ltb (s .lane) laneCount) (p .1) in
-        let r = and-parts (leb (s .weight) (mostWeight * s .size)) (ltb (s .lane) laneCount) (q .1) in
-        let l = level (levelFor n (s .size)) refl (p .0) in
-        record { level = l .0; low = l .1; size-is = l .2; some = leb-true 1 (s .weight) (q .0); most = leb-true (s .weight) (mostWeight * s .size) (r .0); lane = decides-ltb (s .lane) laneCount .0 (r .1) })
-    , λ h.
-        and-from (isSome (levelFor n (s .size))) (leb 1 (s .weight) && (leb (s .weight) (mostWeight * s .size) && ltb (s .lane) laneCount)) (ap isSome (level-is n (s .size) (h .level) (h .low) (h .size-is)))
-        (and-from (leb 1 (s .weight)) (leb (s .weight) (mostWeight * s .size) && ltb (s .lane) laneCount) (le-leb 1 (s .weight) (h .some))
-        (and-from (leb (s .weight) (mostWeight * s .size)) (ltb (s .lane) laneCount) (le-leb (s .weight) (mostWeight * s .size) (h .most)) (decides-ltb (s .lane) laneCount .1 (h .lane))))
-    )
+fits-decides n s = (
+  (λ h.
+      let p = and-parts (isSome (levelFor n (s .size))) (leb 1 (s .weight) && (leb (s .weight) (mostWeight * s .size) && ltb (s .lane) laneCount)) h in
+      let q = and-parts (leb 1 (s .weight)) (leb (s .weight) (mostWeight * s .size) && ltb (s .lane) laneCount) (p .1) in
+      let r = and-parts (leb (s .weight) (mostWeight * s .size)) (ltb (s .lane) laneCount) (q .1) in
+      let l = level (levelFor n (s .size)) refl (p .0) in
+      record { level = l .0; low = l .1; size-is = l .2; some = leb-true 1 (s .weight) (q .0); most = leb-true (s .weight) (mostWeight * s .size) (r .0); lane = decides-ltb (s .lane) laneCount .0 (r .1) }),
+  λ h.
+      and-from (isSome (levelFor n (s .size))) (leb 1 (s .weight) && (leb (s .weight) (mostWeight * s .size) && ltb (s .lane) laneCount)) (ap isSome (level-is n (s .size) (h .level) (h .low) (h .size-is)))
+      (and-from (leb 1 (s .weight)) (leb (s .weight) (mostWeight * s .size) && ltb (s .lane) laneCount) (le-leb 1 (s .weight) (h .some))
+      (and-from (leb (s .weight) (mostWeight * s .size)) (ltb (s .lane) laneCount) (le-leb (s .weight) (mostWeight * s .size) (h .most)) (decides-ltb (s .lane) laneCount .1 (h .lane)))),
+)
   where
     level : (o : Option ℕ) → o ≡ levelFor n (s .size) → isSome (levelFor n (s .size)) ≡ true → (i : ℕ) × (i ≤ n) × (s .size ≡ 2 ^ i)
     level None e t = absurd (both-ways (isSome (levelFor n (s .size))) (ap isSome (sym e)) t)
@@ -91,16 +91,16 @@ fit-decides n xs = decides-by-and (fitsIn n) (λ x. fitsIn n x ≡ true) (allFit
 
 -- sets of ranks
 pub isSet-decides : (n f m : ℕ) → Decides (isSet n f m) (Set n f m)
-isSet-decides n f m =
-    ( (λ h.
-        let p = and-parts (isSome (levelFor n m)) (eqb (f % m) 0 && leb (f + m) (2 ^ n)) h in
-        let q = and-parts (eqb (f % m) 0) (leb (f + m) (2 ^ n)) (p .1) in
-        (level (levelFor n m) refl (p .0), eqb-true (f % m) 0 (q .0), leb-true (f + m) (2 ^ n) (q .1)))
-    , λ h.
-        let i : ℕ = h .0 .0 in
-        and-from (isSome (levelFor n m)) (eqb (f % m) 0 && leb (f + m) (2 ^ n)) (ap isSome (level-is n m i (pow-low i n (omega (arith, h .0 .1, h .2))) (h .0 .1)))
-        (and-from (eqb (f % m) 0) (leb (f + m) (2 ^ n)) (eq-eqb (f % m) 0 (h .1)) (le-leb (f + m) (2 ^ n) (h .2)))
-    )
+isSet-decides n f m = (
+  (λ h.
+      let p = and-parts (isSome (levelFor n m)) (eqb (f % m) 0 && leb (f + m) (2 ^ n)) h in
+      let q = and-parts (eqb (f % m) 0) (leb (f + m) (2 ^ n)) (p .1) in
+      (level (levelFor n m) refl (p .0), eqb-true (f % m) 0 (q .0), leb-true (f + m) (2 ^ n) (q .1))),
+  λ h.
+      let i : ℕ = h .0 .0 in
+      and-from (isSome (levelFor n m)) (eqb (f % m) 0 && leb (f + m) (2 ^ n)) (ap isSome (level-is n m i (pow-low i n (omega (arith, h .0 .1, h .2))) (h .0 .1)))
+      (and-from (eqb (f % m) 0) (leb (f + m) (2 ^ n)) (eq-eqb (f % m) 0 (h .1)) (le-leb (f + m) (2 ^ n) (h .2))),
+)
   where
     level : (o : Option ℕ) → o ≡ levelFor n m → isSome (levelFor n m) ≡ true → (i : ℕ) × (m ≡ 2 ^ i)
     level None e t = absurd (both-ways (isSome (levelFor n m)) (ap isSome (sym e)) t)
@@ -122,9 +122,9 @@ apart-decides n xs =
     decides-all (λ f. allBelow (λ g. allBelow (λ r. implies (holdsRank xs f r && holdsRank xs g r) (eqb f g)) (2 ^ n)) (length xs))
     (λ f. (g : ℕ) → g < length xs → (r : ℕ) → r < 2 ^ n → Holds (sizeAt xs) f r × Holds (sizeAt xs) g r → f ≡ g)
     (λ f. decides-all (λ g. allBelow (λ r. implies (holdsRank xs f r && holdsRank xs g r) (eqb f g)) (2 ^ n)) (λ g. (r : ℕ) → r < 2 ^ n → Holds (sizeAt xs) f r × Holds (sizeAt xs) g r → f ≡ g)
-        (λ g. decides-all (λ r. implies (holdsRank xs f r && holdsRank xs g r) (eqb f g)) (λ r. Holds (sizeAt xs) f r × Holds (sizeAt xs) g r → f ≡ g)
-            (λ r. decides-implies (holdsRank xs f r && holdsRank xs g r) (eqb f g)
-                (decides-and (holdsRank xs f r) (holdsRank xs g r) (holdsRank-decides xs f r) (holdsRank-decides xs g r)) (decides-eqb f g)) (2 ^ n)) (length xs)) (length xs)
+    (λ g. decides-all (λ r. implies (holdsRank xs f r && holdsRank xs g r) (eqb f g)) (λ r. Holds (sizeAt xs) f r × Holds (sizeAt xs) g r → f ≡ g)
+    (λ r. decides-implies (holdsRank xs f r && holdsRank xs g r) (eqb f g)
+    (decides-and (holdsRank xs f r) (holdsRank xs g r) (holdsRank-decides xs f r) (holdsRank-decides xs g r)) (decides-eqb f g)) (2 ^ n)) (length xs)) (length xs)
 
 -- past the last entry nothing begins
 begins : (xs : Ranks) (f : ℕ) → 0 < sizeAt xs f → f < length xs
@@ -135,6 +135,7 @@ sound-tested n xs a b = record { sets = sets; apart = apart }
   where
     sets : (f : ℕ) → 0 < sizeAt xs f → Set n f (sizeAt xs f)
     sets f pos = sets-decides n xs .0 a f (begins xs f pos) pos
+
     apart : (f g r : ℕ) → Holds (sizeAt xs) f r → Holds (sizeAt xs) g r → f ≡ g
     apart f g r x y =
         let pf : 0 < sizeAt xs f = omega (arith, x .0, x .1) in
@@ -155,12 +156,12 @@ grow-decides n xs =
     decides-all (λ i. allBelow (λ p. allBelow (λ j. allBelow (leftSmaller n xs i p j) (2 ^ n)) (suc n)) (2 ^ n))
     (λ i. (p : ℕ) → p < 2 ^ n → (j : ℕ) → j < suc n → (q : ℕ) → q < 2 ^ n → Left n xs i p j q)
     (λ i. decides-all (λ p. allBelow (λ j. allBelow (leftSmaller n xs i p j) (2 ^ n)) (suc n)) (λ p. (j : ℕ) → j < suc n → (q : ℕ) → q < 2 ^ n → Left n xs i p j q)
-        (λ p. decides-all (λ j. allBelow (leftSmaller n xs i p j) (2 ^ n)) (λ j. (q : ℕ) → q < 2 ^ n → Left n xs i p j q)
-            (λ j. decides-all (leftSmaller n xs i p j) (Left n xs i p j)
-                (λ q. decides-implies (isWhole n xs i p && (isWhole n xs j q && ltb (p * 2 ^ i) (q * 2 ^ j))) (ltb i j)
-                    (decides-and (isWhole n xs i p) (isWhole n xs j q && ltb (p * 2 ^ i) (q * 2 ^ j)) (isWhole-decides n xs i p)
-                        (decides-and (isWhole n xs j q) (ltb (p * 2 ^ i) (q * 2 ^ j)) (isWhole-decides n xs j q) (decides-ltb (p * 2 ^ i) (q * 2 ^ j))))
-                    (decides-ltb i j)) (2 ^ n)) (suc n)) (2 ^ n)) (suc n)
+    (λ p. decides-all (λ j. allBelow (leftSmaller n xs i p j) (2 ^ n)) (λ j. (q : ℕ) → q < 2 ^ n → Left n xs i p j q)
+    (λ j. decides-all (leftSmaller n xs i p j) (Left n xs i p j)
+    (λ q. decides-implies (isWhole n xs i p && (isWhole n xs j q && ltb (p * 2 ^ i) (q * 2 ^ j))) (ltb i j)
+    (decides-and (isWhole n xs i p) (isWhole n xs j q && ltb (p * 2 ^ i) (q * 2 ^ j)) (isWhole-decides n xs i p)
+    (decides-and (isWhole n xs j q) (ltb (p * 2 ^ i) (q * 2 ^ j)) (isWhole-decides n xs j q) (decides-ltb (p * 2 ^ i) (q * 2 ^ j))))
+    (decides-ltb i j)) (2 ^ n)) (suc n)) (2 ^ n)) (suc n)
 
 pub ordered-tested : (n : ℕ) (xs : Ranks) → sizesGrow n xs ≡ true → Ordered n (sizeAt xs)
 unfolding Left
@@ -172,7 +173,7 @@ ordered-tested n xs h f m g l hf hg lt =
     let j : ℕ = b .0 in
     let q : ℕ = b .1 in
     let less = grow-decides n xs .0 h i (omega (arith, level-in n xs i p (a .4 .0))) p (index i p (a .4)) j (omega (arith, level-in n xs j q (b .4 .0))) q (index j q (b .4))
-        (a .4, (b .4, omega (arith, firsts i p, firsts j q, a .3, b .3))) in
+    (a .4, (b .4, omega (arith, firsts i p, firsts j q, a .3, b .3))) in
     let z : 2 ^ i < 2 ^ j = pow-lt less in
     omega (arith, a .2, b .2, size-pow i, size-pow j)
   where
@@ -183,7 +184,7 @@ pub tested-ordered : (n : ℕ) (xs : Ranks) → Ordered n (sizeAt xs) → sizesG
 unfolding Left
 tested-ordered n xs h =
     grow-decides n xs .1 (λ i _ p _ j _ q _ t.
-        level-lt i j (h (dbl i p) (dbl i 1) (dbl j q) (dbl j 1) (whole-from n (sizeAt xs) i p (t .0)) (whole-from n (sizeAt xs) j q (t .1 .0)) (omega (arith, t .1 .1, firsts i p, firsts j q))))
+    level-lt i j (h (dbl i p) (dbl i 1) (dbl j q) (dbl j 1) (whole-from n (sizeAt xs) i p (t .0)) (whole-from n (sizeAt xs) j q (t .1 .0)) (omega (arith, t .1 .1, firsts i p, firsts j q))))
 
 -- numbers that stand once
 number-of : (number : ℕ) (x : Option Session) → isNumber number x ≡ true → (s : Session) × (x ≡ Some s) × (s .number ≡ number)
@@ -240,10 +241,10 @@ tested-once [] h = refl
 tested-once (None ∷ xs) h = tested-once xs (λ f g s t a b e. omega (arith, h (suc f) (suc g) s t a b e))
 tested-once (Some x ∷ xs) h =
     and-from (not (holds (x .number) xs)) (once xs)
-    (elim (cases-bool (holds (x .number) xs))
-        [ inl e ↦ let r = holds-at (x .number) xs e in absurd (omega (arith, h 0 (suc (r .0)) x (r .1) refl (r .2) (sym (r .3))))
-        | inr e ↦ not-from-false (holds (x .number) xs) e
-        ])
+    (elim (cases-bool (holds (x .number) xs)) [
+      | inl e ↦ let r = holds-at (x .number) xs e in absurd (omega (arith, h 0 (suc (r .0)) x (r .1) refl (r .2) (sym (r .3))))
+      | inr e ↦ not-from-false (holds (x .number) xs) e
+    ])
     (tested-once xs (λ f g s t a b e. omega (arith, h (suc f) (suc g) s t a b e)))
 
 -- all tests together
@@ -261,14 +262,14 @@ entry-fits n x s e h = sym (ap (fitsIn n) e) ∙ h
 pub standing : (n : ℕ) (xs : Ranks) → Tested n xs → Standing n xs
 standing n xs h =
     let order = ordered-tested n xs (h .ordered) in
-    record
-      { long = h .long
-      ; fit = λ f s e. fits-decides n s .0 (entry-fits n (getD xs f None) s e (all-getD (λ x. fitsIn n x ≡ true) xs f None (in-list f s e) (fit-decides n xs .0 (h .fit))))
-      ; sound = sound-tested n xs (h .sets) (h .apart)
-      ; once = once-tested xs (h .once)
-      ; distinct = differ-distinct n (sizeAt xs) (grow-differ (FreeRank n (sizeAt xs)) (ordered-grow n (sizeAt xs) order))
-      ; ordered = order
-      }
+    record {
+      long = h .long;
+      fit = λ f s e. fits-decides n s .0 (entry-fits n (getD xs f None) s e (all-getD (λ x. fitsIn n x ≡ true) xs f None (in-list f s e) (fit-decides n xs .0 (h .fit))));
+      sound = sound-tested n xs (h .sets) (h .apart);
+      once = once-tested xs (h .once);
+      distinct = differ-distinct n (sizeAt xs) (grow-differ (FreeRank n (sizeAt xs)) (ordered-grow n (sizeAt xs) order));
+      ordered = order;
+    }
   where
     in-list : (f : ℕ) (s : Session) → getD xs f None ≡ Some s → f < length xs
     in-list f s e = elim (cases-lt f (length xs)) [ inl l ↦ l | inr l ↦ none-some s (sym (getD-past xs f None l) ∙ e) ]
@@ -276,14 +277,14 @@ standing n xs h =
 pub tested : (n : ℕ) (xs : Ranks) → Standing n xs → Tested n xs
 tested n xs h =
     let a = tested-sound n xs (h .sound) in
-    record
-      { long = h .long
-      ; fit = fit-decides n xs .1 (all-from-getD (λ x. fitsIn n x ≡ true) xs None (λ f l. one f (getD xs f None) refl))
-      ; sets = a .0
-      ; apart = a .1
-      ; once = tested-once xs (h .once)
-      ; ordered = tested-ordered n xs (h .ordered)
-      }
+    record {
+      long = h .long;
+      fit = fit-decides n xs .1 (all-from-getD (λ x. fitsIn n x ≡ true) xs None (λ f l. one f (getD xs f None) refl));
+      sets = a .0;
+      apart = a .1;
+      once = tested-once xs (h .once);
+      ordered = tested-ordered n xs (h .ordered);
+    }
   where
     one : (f : ℕ) (x : Option Session) → x ≡ getD xs f None → fitsIn n (getD xs f None) ≡ true
     one f None e = ap (fitsIn n) (sym e)

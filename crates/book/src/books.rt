@@ -8,14 +8,22 @@ ghost use Rattle.table.specs.Slots.{bits};
 ghost use Rattle.book.specs.Entries.{levelFor, fits, isNumber, placeOf};
 ghost use Rattle.book.specs.Books.{emptyRanks, freeRanks, lowestFirst, placeFor, filled, releasedAt, released, holds, contents};
 ghost use Rattle.book.specs.Standing.{Standing};
-ghost use Rattle.book.specs.Laws.{FillLaw, Ended};
+ghost use Rattle.book.specs.Laws.{FillLaw, Ended, RoomLaw, PlacedLaw};
 use crate::book::Book;
 use crate::moves::release_set;
-use crate::ranks::{first_of, free_ranks, lowest, size_at, size_of};
+use crate::ranks::first_of;
+use crate::ranks::free_ranks;
+use crate::ranks::lowest;
+use crate::ranks::size_at;
+use crate::ranks::size_of;
 use crate::session::Session;
 use crate::slots::slots_of;
 use table::rank::BITS;
+use table::service::MOST_WEIGHT;
 use table::slot::Slot;
+
+// A port carries so many lanes.
+const LANES: u8 = 15;
 
 // The level of a set of so many ranks.
 fn level_of(levels: u32, size: usize) -> Option<u32>
@@ -37,7 +45,7 @@ fn session_fits(levels: u32, session: Session) -> bool
 {
     let size = session.size as usize;
     let weight = session.weight as usize;
-    level_of(levels, size).is_some() && 1 <= weight && weight <= 255 * size && session.lane < 15
+    level_of(levels, size).is_some() && 1 <= weight && weight <= MOST_WEIGHT as usize * size && session.lane < LANES
 }
 
 // Whether an entry is the session of this number.
@@ -115,7 +123,8 @@ impl Book {
 
     // Whether so many ranks are free.
     pub fn has_room(&self, need: usize) -> bool
-        ensures { λ r. ⌜ r ≡ leb need (freeRanks bits (now (self .entry) .ranks)) ⌝ }
+        ensures value { λ r. ⌜ r ≡ leb need (freeRanks bits (now (self .entry) .ranks)) ⌝ }
+        ensures even { λ r. ⌜ RoomLaw bits (now (self .entry) .ranks) need r ⌝ }
     {
         need <= free_ranks(&self.ranks, BITS)
     }
@@ -159,7 +168,9 @@ impl Book {
 
     // The slots that the book gives.
     pub fn contents(&self) -> [Slot; 64]
-        ensures { λ r. ⌜ r ≡ contents bits (now (self .entry) .ranks) ⌝ }
+        ensures value { λ r. ⌜ r ≡ contents bits (now (self .entry) .ranks) ⌝ }
+        ensures placed { λ r. ⌜ PlacedLaw bits (now (self .entry) .ranks) r ⌝ }
+        ensures standing { λ _. ⌜ Standing bits (now (self .entry) .ranks) ⌝ }
     {
         slots_of(&self.ranks)
     }

@@ -7,7 +7,12 @@ ghost use Rattle.book.specs.Entries.{sizeAt};
 ghost use Rattle.book.specs.Moves.{brother, exchanged, exchangedSets, joined, orderedAt, ordered, releasedSet};
 ghost use Rattle.book.specs.Sound.{Sound, Ordered};
 ghost use Rattle.book.specs.Levels.{FreeIn, Whole, Others};
-use crate::ranks::{first_of, index_of, loose_rank, other_whole, size_of, whole_around};
+use crate::ranks::first_of;
+use crate::ranks::index_of;
+use crate::ranks::loose_rank;
+use crate::ranks::other_whole;
+use crate::ranks::size_of;
+use crate::ranks::whole_around;
 use crate::session::Session;
 
 // Exchanges the ranks from `f` on with those from `g` on, `size` of them.

@@ -131,7 +131,12 @@ fn is_whole(book: &[Option<Session>], levels: u32, level: u32, index: usize) -> 
 }
 
 // The whole free set around a free one, as level and index.
-pub(crate) fn whole_around(book: &[Option<Session>], levels: u32, level: u32, index: usize) -> (u32, usize)
+pub(crate) fn whole_around(
+    book: &[Option<Session>],
+    levels: u32,
+    level: u32,
+    index: usize,
+) -> (u32, usize)
     requires table { ⌜ (2 ^ levels ≤ length (now book)) × (length (now book) ≤ 64) ⌝ }
     requires top { ⌜ levels ≤ 6 ⌝ }
     requires free { ⌜ Free (FreeIn levels (now book)) level index ⌝ }
@@ -147,7 +152,12 @@ pub(crate) fn whole_around(book: &[Option<Session>], levels: u32, level: u32, in
 }
 
 // Another whole free set of this level than this one.
-pub(crate) fn other_whole(book: &[Option<Session>], levels: u32, level: u32, index: usize) -> Option<usize>
+pub(crate) fn other_whole(
+    book: &[Option<Session>],
+    levels: u32,
+    level: u32,
+    index: usize,
+) -> Option<usize>
     requires table { ⌜ (2 ^ levels ≤ length (now book)) × (length (now book) ≤ 64) ⌝ }
     requires top { ⌜ levels ≤ 6 ⌝ }
     requires low { ⌜ level ≤ levels ⌝ }

@@ -1,15 +1,16 @@
 // The slots that a book gives, and how many of them a change of the book changes.
 ghost use mathlib.Core.Path.{_≡_};
 ghost use mathlib.Core.Bool.{true};
-ghost use Prim.Native.Nat.{ℕ, _+_, _*_, _/_, _%_, _<_, _≤_};
+ghost use Prim.Native.Nat.{ℕ, _≤_};
 ghost use lib.ListN.{length};
-ghost use Rattle.table.specs.Slots.{bits, mostWeight};
-ghost use Rattle.table.specs.Services.{weightAt};
+ghost use Rattle.table.specs.Slots.{bits};
 ghost use Rattle.book.specs.Entries.{grantOf};
 ghost use Rattle.book.specs.Slots.{holderFrom, slotFor, carried, contents, changedSlots};
 use crate::ranks::size_at;
 use crate::session::Session;
-use table::rank::{reverse, SLOTS};
+use table::rank::SLOTS;
+use table::rank::reverse;
+use table::service::weight_at;
 use table::slot::Slot;
 
 // The session that holds a rank.
@@ -35,27 +36,19 @@ fn grant_of(session: Session) -> u32
     if weight < size { size } else { weight }
 }
 
-// The weight of a rank of a set of `size` ranks that carry the grant.
-fn weight_at(grant: u32, size: u32, rank: usize) -> u8
-    requires some { ⌜ 1 ≤ size ⌝ }
-    requires small { ⌜ size < 256 ⌝ }
-    requires carried { ⌜ grant ≤ mostWeight * size ⌝ }
-    ensures { λ r. ⌜ r ≡ weightAt grant size rank ⌝ }
-{
-    if rank % (size as usize) < (grant % size) as usize {
-        (grant / size + 1) as u8
-    } else {
-        (grant / size) as u8
-    }
-}
-
 // What the slot of a rank holds for the session that holds the rank.
 fn slot_for(rank: usize, held: Option<Session>) -> Slot
     requires { ⌜ carried held ≡ true ⌝ }
     ensures { λ r. ⌜ r ≡ slotFor rank held ⌝ }
 {
     match held {
-        Some(s) => Slot { lane: s.lane, weight: weight_at(grant_of(s), s.size as u32, rank) },
+        Some(s) => match weight_at(grant_of(s), s.size as usize, rank) {
+            Some(weight) => Slot {
+                lane: s.lane,
+                weight,
+            },
+            None => Slot::empty(),
+        },
         None => Slot::empty(),
     }
 }

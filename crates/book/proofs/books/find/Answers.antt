@@ -9,9 +9,9 @@ use Rattle.book.proofs.books.find.Needs as need
 pub returns-then-is-number : need.returns-then-is-number
 returns-then-is-number c =
     sym (c .loop-f .inv ∙ first-hit (λ f. isNumber (c .args .number) (getD (c .args .book .now) f None)) (c .loop-f .f) (length (c .args .book .now)) (omega arith)
-        (sym (c .is-number .ensures) ∙ c .if-is-number .taken))
+    (sym (c .is-number .ensures) ∙ c .if-is-number .taken))
 
 pub loop-f-again : need.loop-f-again
 loop-f-again c =
     c .loop-f .inv ∙ first-skip (λ f. isNumber (c .args .number) (getD (c .args .book .now) f None)) (c .loop-f .f) (length (c .args .book .now)) (omega arith)
-        (sym (c .is-number .ensures) ∙ c .if-is-number .left)
+    (sym (c .is-number .ensures) ∙ c .if-is-number .left)

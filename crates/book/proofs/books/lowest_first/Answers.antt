@@ -12,10 +12,10 @@ pub first-of-requires : need.first-of-requires
 first-of-requires c κs =
     let n = c .args .levels in
     let l = level-found n (c .args .size) (c .in-Some .level) (c .in-Some .ensures tt) .0 in
-    record
-      { low = omega (arith, l, c .pre .top)
-      ; within = omega (arith, lowest-in n (c .args .book .now) (c .in-Some .level) (c .in-Some-lowest .index) (c .in-Some-lowest .ensures tt), table-small n (c .pre .top))
-      }
+    record {
+      low = omega (arith, l, c .pre .top);
+      within = omega (arith, lowest-in n (c .args .book .now) (c .in-Some .level) (c .in-Some-lowest .index) (c .in-Some-lowest .ensures tt), table-small n (c .pre .top));
+    }
 
 pub returns-in-Some-lowest : need.returns-in-Some-lowest
 returns-in-Some-lowest c =

@@ -14,4 +14,4 @@ pub returns : need.returns
 returns c =
     c .lowest-first .ensures
     ∙ place-is (c .args .levels) (c .args .book .now) (c .args .session) (sym (c .session-fits .ensures) ∙ c .if-not-session-fits .left)
-        (ap isSome (sym (c .find .ensures)) ∙ sym (c .is-some .ensures) ∙ c .if-is-some .left)
+    (ap isSome (sym (c .find .ensures)) ∙ sym (c .is-some .ensures) ∙ c .if-is-some .left)

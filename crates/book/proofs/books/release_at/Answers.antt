@@ -10,13 +10,13 @@ pub release-set-requires : need.release-set-requires
 release-set-requires c κs =
     let n = c .args .levels in
     let h = c .pre .stands in
-    record
-      { table = (omega (arith, h .long), omega (arith, h .long, table-small n (c .pre .top)))
-      ; top = c .pre .top
-      ; held = sym (c .size-at .ensures .is) ∙ level-found n (c .size-at .result) (c .in-Some .level) (c .in-Some .ensures tt) .1
-      ; sound = h .sound
-      ; ordered = h .ordered
-      }
+    record {
+      table = (omega (arith, h .long), omega (arith, h .long, table-small n (c .pre .top)));
+      top = c .pre .top;
+      held = sym (c .size-at .ensures .is) ∙ level-found n (c .size-at .result) (c .in-Some .level) (c .in-Some .ensures tt) .1;
+      sound = h .sound;
+      ordered = h .ordered;
+    }
 
 pub returns-in-Some : need.returns-in-Some
 returns-in-Some c =

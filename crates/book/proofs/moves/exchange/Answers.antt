@@ -10,7 +10,7 @@ pub loop-k-again : need.loop-k-again
 loop-k-again c =
     let p = c .swap .ensures .places in
     swapped-more (c .args .f) (c .args .g) (c .args .size) (c .loop-k .k) (c .args .book .now) (c .loop-k .book) (c .swap .last .self)
-        (c .pre .2) (omega arith) (c .loop-k .inv) (c .swap .ensures .len) (p .0 None) (p .1 None) (λ r u v. p .2 r None u v)
+    (c .pre .2) (omega arith) (c .loop-k .inv) (c .swap .ensures .len) (p .0 None) (p .1 None) (λ r u v. p .2 r None u v)
 
 pub returns : need.returns
 returns c =

@@ -14,11 +14,11 @@ pub first-of-g-requires : need.first-of-g-requires
 first-of-g-requires c κs = omega (arith, table-small (c .args .levels) (c .pre .top))
 
 pub exchange-requires : need.exchange-requires
-exchange-requires c κs =
-    ( omega arith
-    , omega arith
-    , elim (apart-inside (c .args .level) (c .args .p) (c .args .q) (c .pre .apart)) [ inl h ↦ inl (omega arith) | inr h ↦ inr (omega arith) ]
-    )
+exchange-requires c κs = (
+  omega arith,
+  omega arith,
+  elim (apart-inside (c .args .level) (c .args .p) (c .args .q) (c .pre .apart)) [ inl h ↦ inl (omega arith) | inr h ↦ inr (omega arith) ],
+)
 
 pub returns : need.returns
 returns c =

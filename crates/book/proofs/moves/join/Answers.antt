@@ -25,7 +25,7 @@ other-whole-requires c κs =
 pub brother-of-q-requires : need.brother-of-q-requires
 brother-of-q-requires c κs =
     let w = index-in (c .args .levels) (c .loop-o .book) (c .loop-o .l) (c .in-Some .o)
-        (other-found (c .args .levels) (c .loop-o .book) (c .loop-o .l) (c .loop-o .p) (c .in-Some .o) (c .in-Some .ensures tt) .0 .0) in
+    (other-found (c .args .levels) (c .loop-o .book) (c .loop-o .l) (c .loop-o .p) (c .in-Some .o) (c .in-Some .ensures tt) .0 .0) in
     omega (arith, w, size-small (c .args .levels - c .loop-o .l) (omega arith))
 
 pub exchange-sets-requires : need.exchange-sets-requires
@@ -38,14 +38,14 @@ exchange-sets-requires c κs =
     let zs : Ranks = joined n (c .args .book .now) (c .args .level) (c .args .index) in
     let len : 2 ^ n ≤ length xs = omega arith in
     let m = joining-step n zs xs l p o len (c .loop-o .inv) (c .in-Some .ensures tt) in
-    record
-      { table = omega arith
-      ; top = c .pre .top
-      ; low = omega (arith, m .low)
-      ; p-in = free-inside n xs l p (c .loop-o .inv .1 .0)
-      ; q-in = joining-in n zs xs l p o len (c .loop-o .inv) (c .in-Some .ensures tt) (c .brother-of-q .result) (c .brother-of-q .ensures)
-      ; apart = λ e. m .apart (e ∙ c .brother-of-q .ensures)
-      }
+    record {
+      table = omega arith;
+      top = c .pre .top;
+      low = omega (arith, m .low);
+      p-in = free-inside n xs l p (c .loop-o .inv .1 .0);
+      q-in = joining-in n zs xs l p o len (c .loop-o .inv) (c .in-Some .ensures tt) (c .brother-of-q .result) (c .brother-of-q .ensures);
+      apart = λ e. m .apart (e ∙ c .brother-of-q .ensures);
+    }
 
 pub add-l : need.add-l
 add-l c =
@@ -67,11 +67,11 @@ whole-around-start-requires c κs =
     let xs : Ranks = c .loop-o .book in
     let zs : Ranks = joined n (c .args .book .now) (c .args .level) (c .args .index) in
     let len : 2 ^ n ≤ length xs = omega arith in
-    record
-      { table = omega arith
-      ; top = c .pre .top
-      ; free = joining-free n zs xs l p o len (c .loop-o .inv) (c .in-Some .ensures tt) (c .brother-of-q .result) (c .exchange-sets .last .book) (c .brother-of-q .ensures) (c .exchange-sets .ensures)
-      }
+    record {
+      table = omega arith;
+      top = c .pre .top;
+      free = joining-free n zs xs l p o len (c .loop-o .inv) (c .in-Some .ensures tt) (c .brother-of-q .result) (c .exchange-sets .last .book) (c .brother-of-q .ensures) (c .exchange-sets .ensures);
+    }
 
 pub loop-o-less : need.loop-o-less
 loop-o-less c =
@@ -82,9 +82,12 @@ loop-o-less c =
     let xs : Ranks = c .loop-o .book in
     let zs : Ranks = joined n (c .args .book .now) (c .args .level) (c .args .index) in
     let len : 2 ^ n ≤ length xs = omega arith in
-    omega (arith, joining-step n zs xs l p o len (c .loop-o .inv) (c .in-Some .ensures tt) .low,
-        joining-more n zs xs l p o len (c .loop-o .inv) (c .in-Some .ensures tt) (c .brother-of-q .result) (c .exchange-sets .last .book) (c .brother-of-q .ensures) (c .exchange-sets .ensures)
-        (c .whole-around-start .result) (c .whole-around-start .ensures))
+    omega (
+      arith,
+      joining-step n zs xs l p o len (c .loop-o .inv) (c .in-Some .ensures tt) .low,
+      joining-more n zs xs l p o len (c .loop-o .inv) (c .in-Some .ensures tt) (c .brother-of-q .result) (c .exchange-sets .last .book) (c .brother-of-q .ensures) (c .exchange-sets .ensures)
+          (c .whole-around-start .result) (c .whole-around-start .ensures),
+    )
 
 pub loop-o-again : need.loop-o-again
 loop-o-again c =
@@ -96,7 +99,7 @@ loop-o-again c =
     let zs : Ranks = joined n (c .args .book .now) (c .args .level) (c .args .index) in
     let len : 2 ^ n ≤ length xs = omega arith in
     joining-again n zs xs l p o len (c .loop-o .inv) (c .in-Some .ensures tt) (c .brother-of-q .result) (c .exchange-sets .last .book) (c .brother-of-q .ensures) (c .exchange-sets .ensures)
-        (c .whole-around-start .result) (c .whole-around-start .ensures)
+    (c .whole-around-start .result) (c .whole-around-start .ensures)
 
 pub returns : need.returns
 returns c =

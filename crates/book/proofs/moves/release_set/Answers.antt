@@ -17,11 +17,11 @@ whole-around-start-requires c κs =
     let n : ℕ = c .args .levels in
     let xs = c .args .book .now in
     let t = release-start n xs (c .args .level) (c .args .at) (c .pre .table .0) (c .pre .held) (c .pre .sound) (c .pre .ordered) in
-    record
-      { table = let e = length-set xs (c .args .at) None in omega (arith, e, c .pre .table .0, c .pre .table .1)
-      ; top = c .pre .top
-      ; free = subst (Free (FreeIn n (set xs (c .args .at) None)) (c .args .level)) (sym (c .index-of .ensures)) (t .free)
-      }
+    record {
+      table = let e = length-set xs (c .args .at) None in omega (arith, e, c .pre .table .0, c .pre .table .1);
+      top = c .pre .top;
+      free = subst (Free (FreeIn n (set xs (c .args .at) None)) (c .args .level)) (sym (c .index-of .ensures)) (t .free);
+    }
 
 pub join-requires : need.join-requires
 join-requires c κs =
@@ -30,13 +30,13 @@ join-requires c κs =
     let xs = c .args .book .now in
     let t = release-start n xs j (c .args .at) (c .pre .table .0) (c .pre .held) (c .pre .sound) (c .pre .ordered) in
     let e = c .whole-around-start .ensures ∙ ap (wholeAround n (set xs (c .args .at) None) j) (c .index-of .ensures) in
-    record
-      { table = let e = length-set xs (c .args .at) None in omega (arith, e, c .pre .table .0, c .pre .table .1)
-      ; top = c .pre .top
-      ; sound = t .sound
-      ; whole = subst (λ (w : ℕ × ℕ). Whole (FreeIn n (set xs (c .args .at) None)) (w .0) (w .1)) (sym e) (t .whole)
-      ; others = subst (λ (w : ℕ × ℕ). Others (FreeIn n (set xs (c .args .at) None)) (w .0) (w .1)) (sym e) (t .others)
-      }
+    record {
+      table = let e = length-set xs (c .args .at) None in omega (arith, e, c .pre .table .0, c .pre .table .1);
+      top = c .pre .top;
+      sound = t .sound;
+      whole = subst (λ (w : ℕ × ℕ). Whole (FreeIn n (set xs (c .args .at) None)) (w .0) (w .1)) (sym e) (t .whole);
+      others = subst (λ (w : ℕ × ℕ). Others (FreeIn n (set xs (c .args .at) None)) (w .0) (w .1)) (sym e) (t .others);
+    }
 
 pub returns : need.returns
 returns c =

@@ -8,7 +8,7 @@ pub returns-then-held-gt0 : need.returns-then-held-gt0
 returns-then-held-gt0 c =
     not-clear (c .args .levels) (c .args .book .now) (c .args .first) (c .args .size) (c .pre .within) (c .pre .some)
     (λ h. free-misses (c .args .levels) (c .args .book .now) (c .args .first) (c .args .size) (c .pre .some) h (c .loop-f .f)
-        (omega arith) (omega arith) (omega arith) (omega arith))
+    (omega arith) (omega arith) (omega arith) (omega arith))
 
 pub returns : need.returns
 returns c =

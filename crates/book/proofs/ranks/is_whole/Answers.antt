@@ -12,7 +12,7 @@ returns-then-level-levels c =
     let n = c .args .levels in
     let up = isFree n (c .args .book .now) (suc (c .args .level)) (c .args .index / 2) in
     sym (and-from (isFree n (c .args .book .now) (c .args .level) (c .args .index)) (not up) (sym (c .set-free .ensures) ∙ c .if-not-set-free .left)
-        (not-from-false up (none-above n (c .args .book .now) (suc (c .args .level)) (c .args .index / 2) (omega arith))))
+    (not-from-false up (none-above n (c .args .book .now) (suc (c .args .level)) (c .args .index / 2) (omega arith))))
 
 pub set-free-requires-2 : need.set-free-requires-2
 set-free-requires-2 c κs =

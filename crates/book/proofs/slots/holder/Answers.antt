@@ -12,10 +12,10 @@ returns-then-rank-f c =
 pub loop-f-again : need.loop-f-again
 loop-f-again c =
     c .loop-f .inv ∙ holder-skip (c .args .book .now) (c .loop-f .f) (c .args .rank) (omega arith)
-    (elim (c .else-f-rank .came)
-        [ else-f-rank·by·then-f-rank·else-rank-f w ↦ inr (omega (arith, w .if-rank-f .left, c .size-at-held .ensures .is))
-        | else-f-rank·by·else-f-rank w ↦ inl (omega (arith, w .if-f-rank .left))
-        ])
+    (elim (c .else-f-rank .came) [
+      | else-f-rank·by·then-f-rank·else-rank-f w ↦ inr (omega (arith, w .if-rank-f .left, c .size-at-held .ensures .is))
+      | else-f-rank·by·else-f-rank w ↦ inl (omega (arith, w .if-f-rank .left))
+    ])
 
 pub returns : need.returns
 returns c = sym (c .loop-f .inv ∙ holder-end (c .args .book .now) (c .loop-f .f) (c .args .rank) (omega arith))

@@ -37,11 +37,11 @@ returns-in-Some c =
     let f = c .in-Some .first in
     let place = c .in-Some .ensures tt in
     let after = filled-at bits (b .ranks) s f place in
-    record
-      { place = place
-      ; after = after
-      ; law = subst (λ o. FillLaw bits (b .ranks) s o (set (b .ranks) f (Some s))) (sym place) (subst (FillLaw bits (b .ranks) s (placeFor bits (b .ranks) s)) (sym after) (fill-law bits (b .ranks) s (book-stands b)))
-      }
+    record {
+      place = place;
+      after = after;
+      law = subst (λ o. FillLaw bits (b .ranks) s o (set (b .ranks) f (Some s))) (sym place) (subst (FillLaw bits (b .ranks) s (placeFor bits (b .ranks) s)) (sym after) (fill-law bits (b .ranks) s (book-stands b)));
+    }
 
 pub returns-in-None : need.returns-in-None
 returns-in-None c =
@@ -49,8 +49,8 @@ returns-in-None c =
     let s = c .args .session in
     let place = c .in-None .ensures tt in
     let after = filled-none bits (b .ranks) s place in
-    record
-      { place = place
-      ; after = after
-      ; law = subst (λ o. FillLaw bits (b .ranks) s o (b .ranks)) (sym place) (subst (FillLaw bits (b .ranks) s (placeFor bits (b .ranks) s)) (sym after) (fill-law bits (b .ranks) s (book-stands b)))
-      }
+    record {
+      place = place;
+      after = after;
+      law = subst (λ o. FillLaw bits (b .ranks) s o (b .ranks)) (sym place) (subst (FillLaw bits (b .ranks) s (placeFor bits (b .ranks) s)) (sym after) (fill-law bits (b .ranks) s (book-stands b)));
+    }

@@ -28,11 +28,11 @@ returns-in-Some c =
     let number = c .args .number in
     let place = c .in-Some .ensures tt in
     let after = c .release-at .ensures ∙ released-at bits (b .ranks) number (c .in-Some .first) place in
-    record
-      { value = ap isSome place ∙ place-holds number (b .ranks)
-      ; after = after
-      ; law = subst (Ended bits (b .ranks) number) (sym after) (release-law bits (b .ranks) number (book-stands b))
-      }
+    record {
+      value = ap isSome place ∙ place-holds number (b .ranks);
+      after = after;
+      law = subst (Ended bits (b .ranks) number) (sym after) (release-law bits (b .ranks) number (book-stands b));
+    }
 
 pub returns-in-None : need.returns-in-None
 returns-in-None c =
@@ -40,8 +40,8 @@ returns-in-None c =
     let number = c .args .number in
     let place = c .in-None .ensures tt in
     let after = released-none bits xs number place in
-    record
-      { value = ap isSome place ∙ place-holds number xs
-      ; after = after
-      ; law = subst (Ended bits xs number) (sym after) (release-law bits xs number (book-stands (c .args .self .now)))
-      }
+    record {
+      value = ap isSome place ∙ place-holds number xs;
+      after = after;
+      law = subst (Ended bits xs number) (sym after) (release-law bits xs number (book-stands (c .args .self .now)));
+    }
