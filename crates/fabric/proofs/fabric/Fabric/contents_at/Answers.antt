@@ -8,6 +8,6 @@ use Rattle.fabric.proofs.fabric.Fabric.contents_at.Needs as need
 
 pub returns : need.returns
 returns c = record {
-  value = c .contents .ensures ∙ ap (contents bits) (sym (book-at (c .args .self .now .books) (c .args .port) (c .index-self-port .result) (omega arith)));
+  value = c .contents .ensures .value ∙ ap (contents bits) (sym (book-at (c .args .self .now .books) (c .args .port) (c .index-self-port .result) (omega arith)));
   there = simp length-map (omega arith);
 }

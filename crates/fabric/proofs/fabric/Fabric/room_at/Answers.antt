@@ -7,4 +7,4 @@ use Rattle.fabric.proofs.Books.{book-at}
 use Rattle.fabric.proofs.fabric.Fabric.room_at.Needs as need
 
 pub returns : need.returns
-returns c = c .has-room .ensures ∙ ap (λ (b : Ranks). leb (c .args .need) (freeRanks bits b)) (sym (book-at (c .args .self .now .books) (c .args .port) (c .index-self-port .result) (omega arith)))
+returns c = c .has-room .ensures .value ∙ ap (λ (b : Ranks). leb (c .args .need) (freeRanks bits b)) (sym (book-at (c .args .self .now .books) (c .args .port) (c .index-self-port .result) (omega arith)))
