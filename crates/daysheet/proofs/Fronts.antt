@@ -10,7 +10,7 @@ use Rattle.std.specs.declared.result.Result.the-variants.{Ok, Err}
 use Rattle.std.proofs.shelf.Lists.{take-at}
 use Rattle.bank.specs.declared.port.Port.{Port}
 use Rattle.fabric.specs.States.{State}
-use Rattle.daysheet.specs.Answers.{Wrote, noText}
+use Rattle.text.specs.Answers.{Wrote, noText}
 use Rattle.table.specs.declared.refusal.Reason.the-variants.{LongInput}
 use Rattle.std.proofs.shelf.Tests.{lt-leb}
 use Rattle.daysheet.specs.Replies.{obeyed, answerText}

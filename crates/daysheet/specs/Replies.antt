@@ -24,8 +24,8 @@ use Rattle.daysheet.specs.declared.reply.Said.{Said}
 use Rattle.daysheet.specs.declared.reply.Said.the-variants.{Nothing, Released, Reserved, Image}
 use Rattle.daysheet.specs.declared.reply.LineRefusal.{LineRefusal}
 use Rattle.daysheet.specs.declared.reply.Reply.{Reply}
-use Rattle.daysheet.specs.Answers.{Wrote, okText, imageText, noText}
-use Rattle.daysheet.specs.Commands.{Asked, reserve, release, shut, reopen, table, commandOf}
+use Rattle.text.specs.Answers.{Wrote, okText, imageText, noText}
+use Rattle.text.specs.Commands.{Asked, reserve, release, shut, reopen, table, commandOf}
 
 -- what is answered to a command, with the fabric and the ports of the bank after it
 abbrev pub Acted : Type 0

@@ -9,8 +9,8 @@ use Rattle.bank.specs.declared.port.Port.{Port}
 use Rattle.bank.specs.Ports.{newPorts}
 use Rattle.fabric.specs.States.{State, Outcome}
 use Rattle.fabric.specs.Starting.{unstarted, startCall}
-use Rattle.daysheet.specs.Answers.{noText}
-use Rattle.daysheet.specs.Lines.{linesOf}
+use Rattle.text.specs.Answers.{noText}
+use Rattle.text.specs.Lines.{linesOf}
 use Rattle.daysheet.specs.Replies.{obeyed, answerText}
 
 -- a sheet has at most so many bytes

@@ -1,18 +1,4 @@
-// A day sheet's lines: what a line asks, and how its answer is written.
-pub mod answer;
-pub mod bytes;
-pub mod command;
-pub mod cut;
-pub mod feed;
-pub mod field;
-pub mod fields;
-mod gather;
-pub mod lines;
-pub mod number;
-mod numbers;
-pub mod parse;
-pub mod path;
-mod refuse;
+// Day sheets: each line's command is carried out on a fabric, and its answer written as text.
+pub mod answering;
 pub mod reply;
 pub mod sheet;
-pub mod answering;

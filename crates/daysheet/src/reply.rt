@@ -1,4 +1,4 @@
-use crate::answer::IMAGE;
+use text::answer::IMAGE;
 use table::refusal::Refusal;
 
 // What an accepted line answers.

@@ -4,7 +4,7 @@ use Prim.Native.Nat.{ℕ}
 use lib.ListN.{take, replicate}
 use Rattle.std.specs.Of.Vec.{vec-items}
 use Rattle.fabric.specs.States.{meaning}
-use Rattle.daysheet.specs.Sizes.{answerBytes}
+use Rattle.text.specs.Sizes.{answerBytes}
 use Rattle.daysheet.specs.Replies.{obeyed, answerText}
 use Rattle.daysheet.proofs.Fronts.{front-within, front, made-as}
 use Rattle.daysheet.proofs.sheet.add_answer.Needs as need

@@ -1,6 +1,6 @@
 use Rattle.std.specs.Of.Vec.{vec-items}
 use Rattle.fabric.specs.States.{meaning}
-use Rattle.daysheet.specs.Feed.{linesLeft}
+use Rattle.text.specs.Feed.{linesLeft}
 use Rattle.daysheet.specs.Sheets.{answersFrom}
 use Rattle.daysheet.proofs.Fronts.{line-more}
 use Rattle.daysheet.proofs.sheet.answer_lines.Needs as need

@@ -2,7 +2,7 @@ use mathlib.Core.Path.{_≡_}
 use mathlib.Core.List.{_++_}
 use Rattle.std.specs.Of.Vec.{vec-items}
 use Rattle.fabric.specs.States.{meaning}
-use Rattle.daysheet.specs.Feed.{linesLeft}
+use Rattle.text.specs.Feed.{linesLeft}
 use Rattle.daysheet.specs.Sheets.{answersFrom}
 use Rattle.daysheet.proofs.sheet.answer_lines.Given as given
 

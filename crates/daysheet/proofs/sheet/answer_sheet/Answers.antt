@@ -6,8 +6,8 @@ use lib.ListN.{length, take, replicate}
 use Rattle.std.specs.Of.Vec.{vec-items}
 use Rattle.std.proofs.shelf.Tests.{lt-leb, cond-false}
 use Rattle.table.specs.declared.refusal.Reason.the-variants.{LongInput}
-use Rattle.daysheet.specs.Sizes.{answerBytes}
-use Rattle.daysheet.specs.Answers.{noText}
+use Rattle.text.specs.Sizes.{answerBytes}
+use Rattle.text.specs.Answers.{noText}
 use Rattle.daysheet.specs.Sheets.{mostBytes}
 use Rattle.daysheet.proofs.Fronts.{front-within, front, too-long}
 use Rattle.daysheet.proofs.sheet.answer_sheet.Needs as need

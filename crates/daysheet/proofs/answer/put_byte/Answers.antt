@@ -1,7 +1,0 @@
-use mathlib.Core.Path.{refl}
-use native.Mathlib.Omega.{arith}
-use Rattle.daysheet.proofs.Puts.{put-one}
-use Rattle.daysheet.proofs.answer.put_byte.Needs as need
-
-pub returns : need.returns
-returns c = record { len = refl; after = put-one (c .args .out .now) (c .args .at) (c .args .byte) (omega arith) }

@@ -1,0 +1,5 @@
+pub mod Digits
+pub mod Cuts
+pub mod Gathers
+pub mod Puts
+pub mod Ends

@@ -1,0 +1,12 @@
+pub mod Sizes
+pub mod Bytes
+pub mod Numbers
+pub mod Parts
+pub mod Tokens
+pub mod Cursor
+pub mod Commands
+pub mod Told
+pub mod Gathered
+pub mod Answers
+pub mod Lines
+pub mod Feed
