@@ -6,3 +6,4 @@ pub mod rng;
 pub mod script;
 pub mod scripts;
 pub mod sheets;
+pub mod systematic;

@@ -466,12 +466,7 @@ pub struct Fabric {
 
 impl Fabric {
     pub fn new() -> Fabric {
-        Fabric {
-            started: None,
-            books: vec![Book::new(); MOST_PORTS],
-            pointers: [Pointer { slot: SLOTS - 1, credit: 0 }; MOST_PORTS],
-            live: HashMap::new(),
-        }
+        Fabric { started: None, books: vec![Book::new(); MOST_PORTS], pointers: [Pointer { slot: SLOTS - 1, credit: 0 }; MOST_PORTS], live: HashMap::new() }
     }
 
     pub fn book(&self, port: usize) -> &Book {

@@ -119,9 +119,7 @@ impl World {
         let World { bank, fabric, lanes } = self;
         match command {
             Command::Start => fabric.start(bank).map(|_| Answer::Nothing),
-            Command::Reserve { number, level, weight, path } => {
-                fabric.reserve(bank, *number, *level, *weight, path).map(|(a, b, c)| Answer::Reserved(a, b, c))
-            }
+            Command::Reserve { number, level, weight, path } => fabric.reserve(bank, *number, *level, *weight, path).map(|(a, b, c)| Answer::Reserved(a, b, c)),
             Command::Release(number) => fabric.release(bank, *number).map(Answer::Slots),
             Command::Shut(port) => fabric.shut(bank, *port).map(|_| Answer::Nothing),
             Command::Reopen(port) => fabric.reopen(bank, *port).map(|_| Answer::Nothing),

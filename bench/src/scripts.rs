@@ -83,11 +83,7 @@ fn reserve(rng: &mut Rng, levels: &[u32], ports: usize) -> Command {
     };
     let hops = if rng.percent(4) { rng.of(&[0, 8, 9, 20, 255]) } else { rng.within(1, ports) };
     let first = rng.below(ports);
-    let path = if rng.percent(15) {
-        (0..hops).map(|_| port(rng, ports)).collect()
-    } else {
-        (0..hops).map(|k| (first + k) % ports).collect()
-    };
+    let path = if rng.percent(15) { (0..hops).map(|_| port(rng, ports)).collect() } else { (0..hops).map(|k| (first + k) % ports).collect() };
     Command::Reserve { number: number(rng), level, weight, path }
 }
 

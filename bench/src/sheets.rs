@@ -21,23 +21,12 @@ enum Mood {
     Garbage,
 }
 
-const MOODS: [Mood; 11] = [
-    Mood::Day,
-    Mood::Day,
-    Mood::Full,
-    Mood::Full,
-    Mood::Full,
-    Mood::Small,
-    Mood::Small,
-    Mood::Paths,
-    Mood::Edges,
-    Mood::Damaged,
-    Mood::Garbage,
-];
+const MOODS: [Mood; 11] =
+    [Mood::Day, Mood::Day, Mood::Full, Mood::Full, Mood::Full, Mood::Small, Mood::Small, Mood::Paths, Mood::Edges, Mood::Damaged, Mood::Garbage];
 
 const EDGES: [&str; 34] = [
-    "0", "1", "2", "3", "4", "5", "7", "8", "9", "13", "14", "15", "16", "17", "63", "64", "65", "254", "255", "256", "510", "511", "1020", "1021", "8160", "8161", "16319",
-    "16320", "16321", "65534", "65535", "65536", "99999", "100000",
+    "0", "1", "2", "3", "4", "5", "7", "8", "9", "13", "14", "15", "16", "17", "63", "64", "65", "254", "255", "256", "510", "511", "1020", "1021", "8160",
+    "8161", "16319", "16320", "16321", "65534", "65535", "65536", "99999", "100000",
 ];
 
 /// A sheet that is being written, and the desk that its lines leave, so that later lines can find live sessions.

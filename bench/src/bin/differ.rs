@@ -9,7 +9,7 @@ use std::process::{Command, ExitCode, Stdio};
 use std::thread;
 
 use bench::differ::{difference, shrink, Tally};
-use bench::{product, script, scripts, sheets};
+use bench::{product, script, scripts, sheets, systematic};
 
 /// The most bytes of answers that a sheet can get: `table 0` and a line feed get 260 for 8.
 const MOST_ANSWERS: usize = 65_536 / 8 * 260 + 260;
@@ -32,16 +32,17 @@ fn run(program: &str, input: &[u8]) -> io::Result<Vec<u8>> {
 
 fn sheets_differ(seed: u64, count: u64, mut serve: impl FnMut(&[u8]) -> Vec<u8>) -> bool {
     let mut tally = Tally::default();
-    for seed in seed..seed + count {
-        let input = sheets::sheet(seed);
+    let listed = systematic::sheets().into_iter().enumerate().map(|(k, input)| (format!("systematic-{k}"), input));
+    let random = (seed..seed + count).map(|seed| (format!("seed-{seed}"), sheets::sheet(seed)));
+    for (name, input) in listed.chain(random) {
         let theirs = serve(&input);
         tally.add(&theirs);
         let Some(found) = difference(&input, &theirs) else { continue };
         tally.print();
-        println!("FIRST DIFFERENCE: sheet of seed {seed}, line {}", found.line);
+        println!("FIRST DIFFERENCE: sheet {name}, line {}", found.line);
         println!("asked   {}\ntwin    {}\nproduct {}", found.asked, found.ours, found.theirs);
         let shorter = shrink(&input, 500, |input| difference(input, &serve(input)).is_some());
-        let file = env::temp_dir().join(format!("differ-{seed}.sheet"));
+        let file = env::temp_dir().join(format!("differ-{name}.sheet"));
         match std::fs::write(&file, &shorter) {
             Ok(()) => println!("a shorter sheet, {} bytes, is in {}", shorter.len(), file.display()),
             Err(error) => println!("could not keep a shorter sheet: {error}"),

@@ -149,7 +149,7 @@ fn cases() -> Vec<Case> {
         let mut rng = Rng::new(3);
         move |k: usize| {
             let number = rng.within(1, 12);
-            if k % 2 == 0 {
+            if k.is_multiple_of(2) {
                 format!("reserve {number} {} {} {}", rng.of(&[0, 1, 3, 7, 7, 11]), rng.within(1, 255), rng.below(4))
             } else {
                 format!("release {number}")
