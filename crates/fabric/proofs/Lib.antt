@@ -8,3 +8,6 @@ pub mod Along
 pub mod Paths
 pub mod Reserves
 pub mod Releases
+pub mod Waiting
+pub mod Seeks
+pub mod Picks

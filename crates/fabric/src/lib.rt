@@ -4,6 +4,7 @@ mod changing;
 pub mod declined;
 pub mod fabric;
 pub mod picked;
+pub mod picking;
 mod program;
 mod questions;
 pub mod releasing;
