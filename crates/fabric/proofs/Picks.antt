@@ -1,10 +1,9 @@
 -- The turn of a port, by the slot that serves.
-use mathlib.Core.Path.{_≡_, refl, sym, ap, _∙_}
-use mathlib.Core.Bool.{Bool, true, false, cond, _&&_}
+use mathlib.Core.Path.{_≡_, sym, ap, _∙_}
+use mathlib.Core.Bool.{Bool, true, false, _&&_}
 use mathlib.Core.List.{List}
-use Prim.Native.Nat.{ℕ, min, _+_, _-_, _%_, _<_, _≤_}
+use Prim.Native.Nat.{ℕ, min, _+_, _-_, _%_, _<_}
 use native.Mathlib.Nat.{add-zero, mod-add-mod}
-use native.Mathlib.Omega.{arith}
 use lib.Dec.{ltb}
 use lib.ListN.{length, getD, set}
 use Rattle.std.specs.declared.option.Option.{Option}
@@ -28,10 +27,10 @@ canSend qs credit lane = ltb 0 credit && some (queue qs lane)
 -- the first packet of a slot's lane is sent, and the pointer stands at a place
 abbrev pub sentAt : List (List ℕ) → ℕ → ℕ → Slot → ℕ → Turn
 sentAt qs place d x credit = record {
-      answer = Sent (x .lane) (first (queue qs (x .lane))) d;
-      pointer = record { slot = place; credit = credit - cost (first (queue qs (x .lane))) };
-      queues = set qs (x .lane) (rest (queue qs (x .lane)));
-    }
+  answer = Sent (x .lane) (first (queue qs (x .lane))) d;
+  pointer = record { slot = place; credit = credit - cost (first (queue qs (x .lane))) };
+  queues = set qs (x .lane) (rest (queue qs (x .lane)));
+}
 
 -- what a turn answers and leaves at port p
 abbrev pub turned : State → ℕ → Turn → Picking

@@ -5,7 +5,7 @@ use Prim.Native.Nat.{ℕ, suc, zero, _+_, _-_, _<_, _≤_}
 use native.Mathlib.Omega.{arith}
 use Rattle.std.specs.declared.option.Option.{Option}
 use Rattle.std.specs.declared.option.Option.the-variants.{Some, None}
-use Rattle.std.proofs.shelf.Tests.{cond-true, cond-false, cond-both}
+use Rattle.std.proofs.shelf.Tests.{cond-true, cond-false}
 use Rattle.fabric.specs.Picking.{seek}
 
 cond-through : {X Y : Type 0} (f : X → Y) (b : Bool) (x y : X) (z : Y) → f y ≡ z → f (cond b x y) ≡ cond b (f x) z

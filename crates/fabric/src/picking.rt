@@ -1,6 +1,6 @@
 // Picking the packet that a port sends next.
 ghost use mathlib.Core.Path.{_≡_};
-ghost use Prim.Native.Nat.{ℕ, _+_, _-_, _%_, _<_, _≤_};
+ghost use Prim.Native.Nat.{_+_, _-_, _<_, _≤_};
 ghost use mathlib.Core.Bool.{_&&_};
 ghost use lib.Dec.{ltb};
 ghost use lib.ListN.{length, set};
@@ -10,8 +10,7 @@ ghost use Rattle.table.specs.Slots.{slots};
 ghost use Rattle.bank.specs.Ports.{portAt, mostPorts};
 ghost use Rattle.lanes.specs.Queues.{mostBytes, queue, rest};
 ghost use Rattle.fabric.specs.States.{meaning};
-ghost use Rattle.fabric.specs.Shutting.{askPort};
-ghost use Rattle.fabric.specs.Picking.{cost, slotOn, some, first, ready, seek, pointerAt, withPointer, pickAnswer, picking, ifPicked, pickCall};
+ghost use Rattle.fabric.specs.Picking.{cost, slotOn, some, first, ready, seek, withPointer, pickAnswer, picking, ifPicked, pickCall};
 use crate::declined::Declined;
 use crate::declined::by_bank;
 use crate::fabric::Fabric;
@@ -77,7 +76,12 @@ fn take_first<L: Lanes>(lanes: &mut L, lane: u8) -> u16
 }
 
 // The first of the slots behind the pointer, its own last, that has a weight and a packet: how many places on it is, and the slot.
-fn next_ready<B: Bank, L: Lanes>(bank: &B, lanes: &L, port: usize, at: Pointer) -> Option<(usize, Slot)>
+fn next_ready<B: Bank, L: Lanes>(
+    bank: &B,
+    lanes: &L,
+    port: usize,
+    at: Pointer,
+) -> Option<(usize, Slot)>
     requires { ⌜ port < length (ports (now bank)) ⌝ }
     ensures { λ r. ⌜ r ≡ seek (ready (portAt (ports (now (bank .entry))) port .slots) at (queues (now (lanes .entry)))) (λ d. Some (d, slotOn (portAt (ports (now (bank .entry))) port .slots) (at .slot + d))) None 1 slots ⌝ }
 {

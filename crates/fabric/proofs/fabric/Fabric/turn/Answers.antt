@@ -27,7 +27,7 @@ add-to g c =
     let table = portAt (g .B·Bank .ports (c .args .bank .now)) (c .args .port) .slots in
     let at = pointerAt (c .args .self .now .pointers) (c .args .port) in
     let near : c .in-Some .passed < 1 + slots =
-        seek-near (ready table at (g .L·Lanes .queues (c .args .lanes .now))) (λ d. slotOn table (at .slot + d)) 1 slots (c .in-Some .passed) (c .in-Some .slot) (c .in-Some .ensures tt) in
+    seek-near (ready table at (g .L·Lanes .queues (c .args .lanes .now))) (λ d. slotOn table (at .slot + d)) 1 slots (c .in-Some .passed) (c .in-Some .slot) (c .in-Some .ensures tt) in
     omega arith
 
 pub send-length-requires-in-Some : need.send-length-requires-in-Some
@@ -46,7 +46,7 @@ returns-in-Some g c =
     sent-turned s (meaning (c .send-length-in-Some .last .self)) p qs (g .L·Lanes .queues (c .send-length-in-Some .last .lanes)) (c .send-length-in-Some .result) place d (slot .weight) slot (turn table at qs)
     (c .send-length-in-Some .ensures .length) (c .send-length-in-Some .ensures .state) (c .send-length-in-Some .ensures .after)
     (next-sends table at qs (c .min-usable .result) d place (c .slot-on-own .result) slot (g .B·Bank·met .fits (c .args .bank .now) .long p (c .pre)) (c .slot-on-own .ensures) (c .min-usable .ensures)
-        (c .if-can-send .ensures tt) (c .in-Some .ensures tt) refl)
+    (c .if-can-send .ensures tt) (c .in-Some .ensures tt) refl)
 
 pub returns-in-None : need.returns-in-None
 returns-in-None g c =
