@@ -93,9 +93,6 @@ free-misses n xs first size some h f lt a b pos =
       | inr l ↦ h f l a .1 f (omega arith, omega arith)
     ]
 
-pub dbl-size : (i q : ℕ) → q * dbl i 1 ≡ dbl i q
-dbl-size i q = ap (λ x. q * x) (size-pow i) ∙ sym (dbl-pow i q)
-
 pub shl-size : (i : ℕ) → i ≤ 6 → (1 * 2 ^ i) % 2 ^ 64 ≡ dbl i 1
 shl-size i h = one-shl i 64 (omega arith) ∙ sym (size-pow i)
 
@@ -118,7 +115,3 @@ decides-set n sz b i q f m e k h =
 
 pub table-small : (n : ℕ) → n ≤ 6 → 2 ^ n ≤ 64
 table-small n h = pow-mono h
-
-pub swapped-at : (f g m f′ g′ m′ : ℕ) (xs ys : Ranks) → f ≡ f′ → g ≡ g′ → m ≡ m′ → Swapped f g m xs ys → Swapped f′ g′ m′ xs ys
-swapped-at f g m f′ g′ m′ xs ys a b c h =
-    subst (λ x. Swapped f′ g′ x xs ys) c (subst (λ x. Swapped f′ x m xs ys) b (subst (λ x. Swapped x g m xs ys) a h))

@@ -147,7 +147,7 @@ module _ (f : ℕ → Bool) (differ : Differ (Is f)) where
       let l : count (freeb f i) (2 * m) + 1 ≤ 2 * (count (freeb f (suc i)) m + 1) = omega (arith, c, lone-one i m) in
       omega (arith, dbl-mono i (count (freeb f i) (2 * m) + 1) (2 * (count (freeb f (suc i)) m + 1)) l, h)
 
-  -- A, one way: so many free ranks, and there is a free set
+  -- so many free ranks, and there is a free set
   pub room : (i m : ℕ) → dbl i 1 ≤ count f (dbl i m) → (q : ℕ) × (q < m) × Free (Is f) i q × ((a : ℕ) → Free (Is f) i a → q ≤ a)
   room i m h =
       let r = first-true (freeb f i) m (elim (cases-eq (count (freeb f i) m) 0) [
@@ -160,7 +160,7 @@ module _ (f : ℕ → Bool) (differ : Differ (Is f)) where
         λ a k. elim (cases-lt a (r .0)) [ inl l ↦ absurd (r .3 a l (true-free f i a k)) | inr l ↦ l ],
       )
 
--- A, the other way: no invariant is needed
+-- the other way round: no invariant is needed
 pub inside : (f : ℕ → Bool) (i m : ℕ) → dbl i (count (freeb f i) m) ≤ count f (dbl i m)
 inside f zero m = omega arith
 inside f (suc i) m =

@@ -32,7 +32,7 @@ use Rattle.book.proofs.Found.{cases-map, first-cases, last-cases, last-skip, l
 use Rattle.book.proofs.Places.{within, size-pow}
 use Rattle.book.proofs.Counts.{dbl-pow}
 use Rattle.book.proofs.Blocks.{decides-set, sets-count, swapped-more}
-use Rattle.book.proofs.Steps.{top-whole, up-more, level-in, up-pow, parent-in, rank-in, sets-apart}
+use Rattle.book.proofs.Steps.{top-whole, level-in, up-pow, parent-in, rank-in, sets-apart}
 
 -- Sets by their first rank and size, and by halves and doubles.
 pub firsts : (i q : ℕ) → q * 2 ^ i ≡ dbl i q
@@ -201,9 +201,6 @@ climb-stop n xs i q l e =
     ap (climb n xs i q) z
     ∙ cond-false (isFree n xs (suc i) (q / 2)) (climb n xs (suc i) (q / 2) (n - (i + 1))) (i, q) (ap (λ x. isFree n xs x (q / 2)) y ∙ e)
 
-pub climb-top : (n : ℕ) (xs : Ranks) (i q : ℕ) → n ≤ i → climb n xs i q (n - i) ≡ (i, q)
-climb-top n xs i q l = let z : n - i ≡ 0 = omega arith in ap (climb n xs i q) z
-
 -- what the searches find
 pub lowestFree-cases : (n : ℕ) (xs : Ranks) (i : ℕ)
     → Cases (lowestFree n xs i) ((a : ℕ) → Free (FreeIn n xs) i a → ⊥) (λ q. Free (FreeIn n xs) i q × ((a : ℕ) → Free (FreeIn n xs) i a → q ≤ a))
@@ -262,9 +259,6 @@ whole-is n xs i q r h e =
 -- how many sets of a level the code goes through
 pub count-at : (n j m r i : ℕ) → r ≡ m / 2 ^ j → m ≡ 2 ^ n → i < r → i < 2 ^ n / 2 ^ j
 count-at n j m r i e z l = omega (arith, e, ap (λ x. x / 2 ^ j) z)
-
-pub at-count : (n j m r i : ℕ) → r ≡ m / 2 ^ j → m ≡ 2 ^ n → r ≤ i → 2 ^ n / 2 ^ j ≤ i
-at-count n j m r i e z l = omega (arith, e, ap (λ x. x / 2 ^ j) z)
 
 -- what is found, as the code has it
 pub lowest-found : (n : ℕ) (xs : Ranks) (i q : ℕ) → Some q ≡ lowestFree n xs i → Free (FreeIn n xs) i q × ((a : ℕ) → Free (FreeIn n xs) i a → q ≤ a)

@@ -158,7 +158,7 @@ module _ (F G : ℕ → Type 0) (dec : (i x : ℕ) → Free F i x ⊎ (Free F i 
               absurd (absorbed a i x (omega (arith, b .1)) hx h3)
         ]
 
-    -- B
+    -- the whole free sets still grow from left to right
     pub fill : Grow G
     fill i k d x y u hx hy =
         elim (whole-new i x hx) [

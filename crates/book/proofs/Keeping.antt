@@ -62,6 +62,11 @@ none-at zero f = refl
 none-at (suc k) zero = refl
 none-at (suc k) (suc f) = none-at k f
 
+pub empty-sessions : (k : ℕ) → sessionsOf (replicate k None) ≡ []
+unfolding sessionsOf
+empty-sessions zero = refl
+empty-sessions (suc k) = empty-sessions k
+
 pub empty-stands : (n : ℕ) → Standing n (emptyRanks n)
 empty-stands n =
     let xs : Ranks = emptyRanks n in
@@ -75,6 +80,17 @@ empty-stands n =
       distinct = ordered-distinct n xs order;
       ordered = order;
     }
+
+-- what is free and what is held make the table
+pub free-and-held : (n : ℕ) (xs : Ranks) → Sound n (sizeAt xs) → freeRanks n xs + total (sizeAt xs) (2 ^ n) ≡ 2 ^ n
+unfolding freeRanks
+free-and-held n xs sound =
+    omega (
+      arith,
+      count-free n (sizeAt xs) sound,
+      count-same (isFree n xs 0) (vacant n (sizeAt xs)) (2 ^ n) (λ r l.
+          same-from-decides (isFree n xs 0 r) (vacant n (sizeAt xs) r) (isFree-decides n xs 0 r) (vacant-decides n (sizeAt xs) r)),
+    )
 
 -- Fill-in.
 
@@ -163,22 +179,13 @@ module _ (n : ℕ) (xs : Ranks) (s : Session) (f : ℕ) (p : Place n xs s f) (h 
       record {
         fit = fits-decides n s .0 (p .fit);
         new = λ b. not-there (b .0) (b .1) (b .2) (sym (b .3));
+        room = subst (λ m. m ≤ freeRanks n xs) (sym (p .size-is))
+            (omega (arith, free-and-held n xs (h .sound), fits-only n (sizeAt xs) (h .sound) j (n - j) q (omega (arith, p .low)) (index-below n j q (p .low) w) (p .free)));
         set = subst (Set n f) (sym (p .size-is)) (set-of n j q f at w);
         free = subst (FreeSet n (sizeAt xs) f) (sym (p .size-is)) (λ r u v. all-free (FreeIn n xs) j q (p .free) r (omega (arith, at)) (omega (arith, at, size-pow j)));
         lowest = subst (λ m. (g : ℕ) → Set n g m → FreeSet n (sizeAt xs) g m → f ≤ g) (sym (p .size-is)) (lowest-first n xs j q f at (p .least));
         sessions = set-sums;
       }
-
--- what is free and what is held make the table
-pub free-and-held : (n : ℕ) (xs : Ranks) → Sound n (sizeAt xs) → freeRanks n xs + total (sizeAt xs) (2 ^ n) ≡ 2 ^ n
-unfolding freeRanks
-free-and-held n xs sound =
-    omega (
-      arith,
-      count-free n (sizeAt xs) sound,
-      count-same (isFree n xs 0) (vacant n (sizeAt xs)) (2 ^ n) (λ r l.
-          same-from-decides (isFree n xs 0 r) (vacant n (sizeAt xs) r) (isFree-decides n xs 0 r) (vacant-decides n (sizeAt xs) r)),
-    )
 
 -- where no set of a size is free, fewer ranks are
 none-free : (n : ℕ) (xs : Ranks) (j : ℕ) → j ≤ n → Standing n xs → ((a : ℕ) → Free (FreeIn n xs) j a → ⊥) → freeRanks n xs < 2 ^ j

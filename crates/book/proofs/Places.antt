@@ -149,9 +149,6 @@ module _ (n : ℕ) (sz : ℕ → ℕ) where
           omega (arith, ap (λ x. dbl x q) z, ap (dbl i) k)
       same-place j i (suc d) q p e k hq hp l = over F j i d q (omega arith) hq (subst (Free F i) (sym k) (hp .0))
 
-  pub distinct-differ : Distinct n sz → Differ F
-  distinct-differ dis i p q hp hq = sym (up-dbl i p) ∙ ap (up i) (dis (dbl i p) (dbl i q) (dbl i 1) (whole-from i p hp) (whole-from i q hq)) ∙ up-dbl i q
-
   pub differ-distinct : Differ F → Distinct n sz
   differ-distinct dif f g m hf hg =
       let a = whole-to f m hf in

@@ -16,7 +16,7 @@ use Rattle.book.proofs.Levels.{up-half}
 use Rattle.book.proofs.Counts.{Is, freeb, free-true, true-free, count-none, room, no-room, dbl-pow}
 use Rattle.book.proofs.Doubles.{dbl-dbl}
 use Rattle.book.proofs.Swaps.{below}
-use Rattle.book.proofs.Places.{in-set, set-in, size-pow, set-index, index-set, dbl-pos, free-all, all-free, distinct-differ}
+use Rattle.book.proofs.Places.{in-set, set-in, size-pow, set-index, index-set, dbl-pos, free-all, all-free}
 
 -- the ranks from a on, l of them
 abbrev pub span : ℕ → ℕ → ℕ → Bool
@@ -109,7 +109,7 @@ module _ (n : ℕ) (sz : ℕ → ℕ) where
   differ-seen dif i p q hp hq =
       dif i p q (real i p (hp .0), λ k. hp .1 (seen (suc i) (p / 2) k)) (real i q (hq .0), λ k. hq .1 (seen (suc i) (q / 2) k))
 
-  -- A: where there are so many free ranks there is a free set, and so a lowest one
+  -- where there are so many free ranks there is a free set, and so a lowest one
   pub fits : Sound n sz → Differ (FreeRank n sz) → (j k : ℕ) → k + j ≡ n → total sz (2 ^ n) + 2 ^ j ≤ 2 ^ n
       → (q : ℕ) × (q < 2 ^ k) × Free (FreeRank n sz) j q × ((a : ℕ) → Free (FreeRank n sz) j a → q ≤ a)
   fits sound dif j k e h =
@@ -125,7 +125,7 @@ module _ (n : ℕ) (sz : ℕ → ℕ) where
       let c = ap (count (vacant n sz)) z in
       omega (arith, c, no-room (vacant n sz) j (2 ^ k) q l (seen j q h), count-free n sz sound, size-pow j)
 
-  -- what B and D ask for: a set is free or not
+  -- a set is free or not
   pub free-or-not : (i x : ℕ) → Free (FreeRank n sz) i x ⊎ (Free (FreeRank n sz) i x → ⊥)
   free-or-not i x =
       elim (cases-bool (freeb (vacant n sz) i x)) [

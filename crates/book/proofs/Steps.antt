@@ -210,20 +210,11 @@ parent-in n l q lt h =
     let e = ap (λ x. 2 ^ x) z ∙ pow-suc 2 k in
     below-index n (l + 1) (q / 2) (omega arith) (omega (arith, a, e))
 
-pub free-suc : (n : ℕ) (xs : Ranks) (l q : ℕ) → Free (FreeIn n xs) (l + 1) q → Free (FreeIn n xs) (suc l) q
-free-suc n xs l q h = let e : l + 1 ≡ suc l = omega arith in subst (λ x. Free (FreeIn n xs) x q) e h
-
-pub suc-free : (n : ℕ) (xs : Ranks) (l q : ℕ) → Free (FreeIn n xs) (suc l) q → Free (FreeIn n xs) (l + 1) q
-suc-free n xs l q h = let e : suc l ≡ l + 1 = omega arith in subst (λ x. Free (FreeIn n xs) x q) e h
-
 -- the table itself is in no larger set
 pub top-whole : (n : ℕ) (xs : Ranks) (l q : ℕ) → n ≤ l → Free (FreeIn n xs) l q → Whole (FreeIn n xs) l q
 top-whole n xs l q le h =
     let e : l ≡ n = omega (arith, level-in n xs l q h) in
     (h, λ k. let z : suc l ≡ suc n = omega arith in bounded (FreeIn n xs) n (q / 2) (table n (sizeAt xs)) (subst (λ x. Free (FreeIn n xs) x (q / 2)) z k))
-
-pub up-more : (i d e q : ℕ) → e ≡ suc d → up e q ≡ up d q / 2
-up-more i d e q z = ap (λ x. up x q) z ∙ up-half d q
 
 pub up-pow : (i r : ℕ) → up i r ≡ r / 2 ^ i
 up-pow i r =
@@ -278,9 +269,6 @@ session-at n xs f j sound e =
       omega (arith, s .2, pow-pos j),
       elim (cases-lt n j) [ inl l ↦ let z : 2 ^ n < 2 ^ j = pow-lt l in absurd (omega (arith, s .2)) | inr l ↦ l ],
     )
-
-pub grow-at : (n : ℕ) (xs : Ranks) (a b : ℕ) → a ≡ b → GrowFrom (FreeIn n xs) a → GrowFrom (FreeIn n xs) b
-grow-at n xs a b e h = subst (GrowFrom (FreeIn n xs)) e h
 
 -- sets by their first rank
 pub set-of : (n j q f : ℕ) → f ≡ dbl j q → dbl j q + dbl j 1 ≤ 2 ^ n → Set n f (2 ^ j)

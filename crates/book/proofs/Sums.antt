@@ -15,7 +15,7 @@ use Rattle.std.specs.declared.option.Option.the-variants.{Some, None}
 use Rattle.book.specs.declared.session.Session.{Session}
 use Rattle.book.specs.Entries.{Ranks, sizeOf, isNumber, holds}
 use Rattle.book.specs.Tests.{once}
-use Rattle.book.specs.Sessions.{sessionsOf, without}
+use Rattle.book.specs.Sessions.{sessionsOf, without, listed, SameSessions}
 use Rattle.book.proofs.Tested.{Once}
 
 -- what an entry adds to a sum
@@ -67,6 +67,48 @@ holds-none number (Some s ∷ xs) h = go (eqb (s .number) number) refl (holds-no
     go : (t : Bool) → t ≡ eqb (s .number) number → (holds number xs ≡ false → sumBy (opt (called number)) xs ≡ 0) → (t || holds number xs) ≡ false → sumBy (opt (called number)) (Some s ∷ xs) ≡ 0
     go true e ih h = absurd (both-ways true h refl)
     go false e ih h = omega (arith, sumBy-cons (opt (called number)) (Some s) xs, ih h, cond-false {A = ℕ} (eqb (s .number) number) 1 0 (sym e))
+
+pub holds-some : (number : ℕ) (xs : Ranks) → holds number xs ≡ true → 1 ≤ sumBy (opt (called number)) xs
+unfolding holds
+holds-some number [] h = absurd (both-ways false refl h)
+holds-some number (None ∷ xs) h = omega (arith, sumBy-cons (opt (called number)) None xs, holds-some number xs h)
+holds-some number (Some s ∷ xs) h = go (eqb (s .number) number) refl (holds-some number xs) h
+  where
+    go : (t : Bool) → t ≡ eqb (s .number) number → (holds number xs ≡ true → 1 ≤ sumBy (opt (called number)) xs) → (t || holds number xs) ≡ true → 1 ≤ sumBy (opt (called number)) (Some s ∷ xs)
+    go true e ih h = omega (arith, sumBy-cons (opt (called number)) (Some s) xs, cond-true {A = ℕ} (eqb (s .number) number) 1 0 (sym e))
+    go false e ih h = omega (arith, sumBy-cons (opt (called number)) (Some s) xs, ih h)
+
+-- the same of a list
+listed-none : (number : ℕ) (ss : List Session) → listed number ss ≡ false → sumBy (called number) ss ≡ 0
+unfolding listed
+listed-none number [] h = refl
+listed-none number (s ∷ ss) h = go (eqb (s .number) number) refl (listed-none number ss) h
+  where
+    go : (t : Bool) → t ≡ eqb (s .number) number → (listed number ss ≡ false → sumBy (called number) ss ≡ 0) → (t || listed number ss) ≡ false → sumBy (called number) (s ∷ ss) ≡ 0
+    go true e ih h = absurd (both-ways true h refl)
+    go false e ih h = omega (arith, sumBy-cons (called number) s ss, ih h, cond-false {A = ℕ} (eqb (s .number) number) 1 0 (sym e))
+
+listed-some : (number : ℕ) (ss : List Session) → listed number ss ≡ true → 1 ≤ sumBy (called number) ss
+unfolding listed
+listed-some number [] h = absurd (both-ways false refl h)
+listed-some number (s ∷ ss) h = go (eqb (s .number) number) refl (listed-some number ss) h
+  where
+    go : (t : Bool) → t ≡ eqb (s .number) number → (listed number ss ≡ true → 1 ≤ sumBy (called number) ss) → (t || listed number ss) ≡ true → 1 ≤ sumBy (called number) (s ∷ ss)
+    go true e ih h = omega (arith, sumBy-cons (called number) s ss, cond-true {A = ℕ} (eqb (s .number) number) 1 0 (sym e))
+    go false e ih h = omega (arith, sumBy-cons (called number) s ss, ih h)
+
+-- a book holds the number that one of its sessions has, in whatever order they are listed
+pub holds-listed : (xs : Ranks) (number : ℕ) (live : List Session) → SameSessions live (sessionsOf xs) → holds number xs ≡ listed number live
+holds-listed xs number live same = go (cases-bool (holds number xs)) (cases-bool (listed number live))
+  where
+    sums : sumBy (called number) live ≡ sumBy (opt (called number)) xs
+    sums = same (called number) ∙ sum-sessions (called number) xs
+
+    go : (holds number xs ≡ true) ⊎ (holds number xs ≡ false) → (listed number live ≡ true) ⊎ (listed number live ≡ false) → holds number xs ≡ listed number live
+    go (inl a) (inl b) = a ∙ sym b
+    go (inl a) (inr b) = absurd (omega (arith, holds-some number xs a, listed-none number live b, sums))
+    go (inr a) (inl b) = absurd (omega (arith, holds-none number xs a, listed-some number live b, sums))
+    go (inr a) (inr b) = a ∙ sym b
 
 -- numbers that stand once are counted once
 pub once-count : (xs : Ranks) → once xs ≡ true → (number : ℕ) → sumBy (opt (called number)) xs ≤ 1

@@ -66,6 +66,13 @@ level-is n m i l e = go (levelFor n m) refl (first-cases (λ i. eqb (2 ^ i) m) 0
         (λ a. (eqb (2 ^ a) m ≡ true) × (a < 0 + suc n) × ((b : ℕ) → 0 ≤ b → b < a → eqb (2 ^ b) m ≡ true → ⊥))) (sym d) t i (omega arith) (omega arith) (eq-eqb (2 ^ i) m (sym e)))
     go (Some a) d t = let f = level-found n m a d in sym d ∙ ap Some (pow-same a i (sym (f .1) ∙ e))
 
+level-some : (n m : ℕ) → isSome (levelFor n m) ≡ true → (i : ℕ) × (i ≤ n) × (m ≡ 2 ^ i)
+level-some n m h = go (levelFor n m) refl
+  where
+    go : (o : Option ℕ) → o ≡ levelFor n m → (i : ℕ) × (i ≤ n) × (m ≡ 2 ^ i)
+    go None e = absurd (both-ways (isSome (levelFor n m)) (ap isSome (sym e)) h)
+    go (Some i) e = let l = level-found n m i e in (i, l .0, l .1)
+
 -- sessions that a book takes
 pub fits-decides : (n : ℕ) (s : Session) → Decides (fits n s) (Fits n s)
 fits-decides n s = (
@@ -73,17 +80,13 @@ fits-decides n s = (
       let p = and-parts (isSome (levelFor n (s .size))) (leb 1 (s .weight) && (leb (s .weight) (mostWeight * s .size) && ltb (s .lane) laneCount)) h in
       let q = and-parts (leb 1 (s .weight)) (leb (s .weight) (mostWeight * s .size) && ltb (s .lane) laneCount) (p .1) in
       let r = and-parts (leb (s .weight) (mostWeight * s .size)) (ltb (s .lane) laneCount) (q .1) in
-      let l = level (levelFor n (s .size)) refl (p .0) in
+      let l = level-some n (s .size) (p .0) in
       record { level = l .0; low = l .1; size-is = l .2; some = leb-true 1 (s .weight) (q .0); most = leb-true (s .weight) (mostWeight * s .size) (r .0); lane = decides-ltb (s .lane) laneCount .0 (r .1) }),
   λ h.
       and-from (isSome (levelFor n (s .size))) (leb 1 (s .weight) && (leb (s .weight) (mostWeight * s .size) && ltb (s .lane) laneCount)) (ap isSome (level-is n (s .size) (h .level) (h .low) (h .size-is)))
       (and-from (leb 1 (s .weight)) (leb (s .weight) (mostWeight * s .size) && ltb (s .lane) laneCount) (le-leb 1 (s .weight) (h .some))
       (and-from (leb (s .weight) (mostWeight * s .size)) (ltb (s .lane) laneCount) (le-leb (s .weight) (mostWeight * s .size) (h .most)) (decides-ltb (s .lane) laneCount .1 (h .lane)))),
 )
-  where
-    level : (o : Option ℕ) → o ≡ levelFor n (s .size) → isSome (levelFor n (s .size)) ≡ true → (i : ℕ) × (i ≤ n) × (s .size ≡ 2 ^ i)
-    level None e t = absurd (both-ways (isSome (levelFor n (s .size))) (ap isSome (sym e)) t)
-    level (Some i) e t = let l = level-found n (s .size) i e in (i, l .0, l .1)
 
 pub fit-decides : (n : ℕ) (xs : Ranks) → Decides (allFit n xs) (All (λ x. fitsIn n x ≡ true) xs)
 unfolding allFit
@@ -95,16 +98,12 @@ isSet-decides n f m = (
   (λ h.
       let p = and-parts (isSome (levelFor n m)) (eqb (f % m) 0 && leb (f + m) (2 ^ n)) h in
       let q = and-parts (eqb (f % m) 0) (leb (f + m) (2 ^ n)) (p .1) in
-      (level (levelFor n m) refl (p .0), eqb-true (f % m) 0 (q .0), leb-true (f + m) (2 ^ n) (q .1))),
+      ((let l = level-some n m (p .0) in (l .0, l .2)), eqb-true (f % m) 0 (q .0), leb-true (f + m) (2 ^ n) (q .1))),
   λ h.
       let i : ℕ = h .0 .0 in
       and-from (isSome (levelFor n m)) (eqb (f % m) 0 && leb (f + m) (2 ^ n)) (ap isSome (level-is n m i (pow-low i n (omega (arith, h .0 .1, h .2))) (h .0 .1)))
       (and-from (eqb (f % m) 0) (leb (f + m) (2 ^ n)) (eq-eqb (f % m) 0 (h .1)) (le-leb (f + m) (2 ^ n) (h .2))),
 )
-  where
-    level : (o : Option ℕ) → o ≡ levelFor n m → isSome (levelFor n m) ≡ true → (i : ℕ) × (m ≡ 2 ^ i)
-    level None e t = absurd (both-ways (isSome (levelFor n m)) (ap isSome (sym e)) t)
-    level (Some i) e t = (i, level-found n m i e .1)
 
 sets-decides : (n : ℕ) (xs : Ranks) → Decides (areSets n xs) ((f : ℕ) → f < length xs → 0 < sizeAt xs f → Set n f (sizeAt xs f))
 unfolding areSets

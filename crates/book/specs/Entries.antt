@@ -12,6 +12,7 @@ use Rattle.table.specs.Services.{granted}
 use Rattle.book.specs.declared.session.Session.{Session}
 use Rattle.book.specs.Searches.{firstFrom}
 
+-- the entries, from rank 0 on
 abbrev pub Ranks : Type 0
 Ranks = List (Option Session)
 

@@ -25,11 +25,12 @@ use Rattle.book.specs.Even.{Has, Even, Placeable}
 abbrev pub InBook : Ranks → ℕ → Type 0
 InBook xs number = (f : ℕ) × (s : Session) × (getD xs f None ≡ Some s) × (s .number ≡ number)
 
--- A session is put at rank f: it is one that a book takes and new, the set from f on is the lowest free one of its size, and the book has the
--- sessions that it had and this one.
+-- A session is put at rank f: it is one that a book takes and new, there was room, the set from f on is the lowest free one of its size, and the
+-- book has the sessions that it had and this one.
 pub record Taken (n : ℕ) (xs : Ranks) (s : Session) (ys : Ranks) (f : ℕ) : Type 0 where
   pub fit : Fits n s
   pub new : InBook xs (s .number) → ⊥
+  pub room : s .size ≤ freeRanks n xs
   pub set : Set n f (s .size)
   pub free : FreeSet n (sizeAt xs) f (s .size)
   pub lowest : (g : ℕ) → Set n g (s .size) → FreeSet n (sizeAt xs) g (s .size) → f ≤ g

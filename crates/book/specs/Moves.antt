@@ -16,6 +16,7 @@ abbrev pub climb : ℕ → Ranks → ℕ → ℕ → ℕ → ℕ × ℕ
 climb n xs i q zero = (i, q)
 climb n xs i q (suc k) = cond (isFree n xs (suc i) (q / 2)) (climb n xs (suc i) (q / 2) k) (i, q)
 
+-- the largest set of a table is of level n
 abbrev pub wholeAround : ℕ → Ranks → ℕ → ℕ → ℕ × ℕ
 wholeAround n xs i q = climb n xs i q (n - i)
 
@@ -31,6 +32,7 @@ brother q = cond (eqb (q % 2) 0) (q + 1) (q - 1)
 abbrev pub source : ℕ → ℕ → ℕ → ℕ → ℕ
 source f g m r = cond (leb f r && ltb r (f + m)) (g + (r - f)) (cond (leb g r && ltb r (g + m)) (f + (r - g)) r)
 
+-- the exchange of those ranks
 abbrev pub exchanged : Ranks → ℕ → ℕ → ℕ → Ranks
 exchanged xs f g m = map (λ r. getD xs (source f g m r) None) (counting 0 (length xs))
 
@@ -56,7 +58,7 @@ abbrev pub looseRank : ℕ → Ranks → ℕ → Option ℕ
 looseRank n xs i = lastBelow (λ r. isFree n xs 0 r && not (isFree n xs i (r / 2 ^ i))) (2 ^ n)
 
 -- Ordering at level i: where smaller whole free sets lie to the right of the whole free set of this level, it is exchanged with the set of its
--- size that contains the rightmost of them.
+-- size that contains the rightmost of them. No set has the index 2 ^ n, so every whole free set of the level is another than that.
 abbrev pub orderedAt : ℕ → Ranks → ℕ → Ranks
 orderedAt n xs i =
     whenSome (otherWhole n xs i (2 ^ n)) xs (λ p.
@@ -68,6 +70,7 @@ abbrev pub ordering : ℕ → Ranks → ℕ → Ranks
 ordering n xs zero = xs
 ordering n xs (suc k) = ordering n (orderedAt n xs k) k
 
+-- ordering at all levels
 abbrev pub ordered : ℕ → Ranks → Ranks
 ordered n xs = ordering n xs (suc n)
 

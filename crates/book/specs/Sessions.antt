@@ -1,6 +1,6 @@
 -- The sessions of a book.
 use mathlib.Core.Path.{_≡_}
-use mathlib.Core.Bool.{cond}
+use mathlib.Core.Bool.{Bool, false, cond, _||_}
 use mathlib.Core.List.{List, [], _∷_, map}
 use Prim.Native.Nat.{ℕ, _/_, _^_}
 use lib.Dec.{eqb}
@@ -21,6 +21,11 @@ unfoldable pub without : ℕ → List Session → List Session
 without number [] = []
 without number (s ∷ ss) = cond (eqb (s .number) number) (without number ss) (s ∷ without number ss)
 
+-- a session of this number is listed
+unfoldable pub listed : ℕ → List Session → Bool
+listed number [] = false
+listed number (s ∷ ss) = eqb (s .number) number || listed number ss
+
 -- the same sessions, in any order: whatever is summed over the ones comes to as much over the others
 abbrev pub SameSessions : List Session → List Session → Type 0
 SameSessions these those = (g : Session → ℕ) → sumBy g these ≡ sumBy g those
@@ -29,5 +34,6 @@ SameSessions these those = (g : Session → ℕ) → sumBy g these ≡ sumBy g t
 abbrev pub spacingOf : ℕ → Session → ℕ
 spacingOf n s = 2 ^ n / s .size
 
+-- the spacings of listed sessions
 abbrev pub spacings : ℕ → List Session → List ℕ
 spacings n ss = map (spacingOf n) ss

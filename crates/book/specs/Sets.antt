@@ -17,6 +17,7 @@ abbrev pub clearFrom : ℕ → Ranks → ℕ → ℕ → Bool
 clearFrom f [] first size = true
 clearFrom f (x ∷ xs) first size = not (meets f (sizeOf x) first size) && clearFrom (suc f) xs first size
 
+-- the same of a whole book
 abbrev pub clear : Ranks → ℕ → ℕ → Bool
 clear xs first size = clearFrom 0 xs first size
 

@@ -1,6 +1,5 @@
 // The calls of a book.
 ghost use mathlib.Core.Path.{_≡_};
-ghost use mathlib.Core.Bool.{false};
 ghost use Prim.Native.Nat.{ℕ, _<_, _≤_, _^_};
 ghost use lib.Dec.{leb};
 ghost use lib.ListN.{length};
@@ -45,7 +44,10 @@ fn session_fits(levels: u32, session: Session) -> bool
 {
     let size = session.size as usize;
     let weight = session.weight as usize;
-    level_of(levels, size).is_some() && 1 <= weight && weight <= MOST_WEIGHT as usize * size && session.lane < LANES
+    level_of(levels, size).is_some()
+        && 1 <= weight
+        && weight <= MOST_WEIGHT as usize * size
+        && session.lane < LANES
 }
 
 // Whether an entry is the session of this number.
