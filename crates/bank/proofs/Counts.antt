@@ -8,7 +8,7 @@ use lib.ListN.{length, length-set}
 use Rattle.table.specs.declared.slot.Slot.{Slot}
 use Rattle.table.specs.Slots.{slots, laneCount}
 use Rattle.bank.specs.declared.port.Port.{Port}
-use Rattle.bank.specs.Ports.{portAt, withSlots, writeAfter, stateAfter}
+use Rattle.bank.specs.Ports.{portAt, writeAfter, stateAfter}
 
 -- either of two lists of one length
 length-either : (b : Bool) (xs ys : List Port) (n : ℕ) → length xs ≡ n → length ys ≡ n → length (cond b xs ys) ≡ n

@@ -1,11 +1,11 @@
 -- Ports that are kept as images, beside what they mean.
-use mathlib.Core.Path.{_≡_, refl, sym, ap, _∙_}
+use mathlib.Core.Path.{_≡_, sym, ap, _∙_}
 use mathlib.Core.List.{List, map}
 use mathlib.Core.Bool.{Bool}
-use Prim.Native.Nat.{ℕ, _+_, _*_, _≤_, _<_}
+use Prim.Native.Nat.{ℕ, _+_, _*_, _<_}
 use native.Mathlib.Omega.{arith}
-use lib.ListN.{length, getD, set, replicate}
-use Rattle.std.proofs.shelf.Lists.{map-set, getD-map, length-map}
+use lib.ListN.{length, getD, set}
+use Rattle.std.proofs.shelf.Lists.{map-set, getD-map}
 use Rattle.std.specs.declared.result.Result.the-variants.{Ok}
 use Rattle.table.specs.declared.slot.Slot.{Slot}
 use Rattle.table.specs.Slots.{slots, laneCount, emptySlot}

@@ -1,6 +1,6 @@
 -- A port that is kept as its image.
 use mathlib.Core.List.{List, []}
-use mathlib.Core.Bool.{true, false}
+use mathlib.Core.Bool.{false}
 use Prim.Native.Nat.{ℕ}
 use lib.ListN.{getD}
 use Rattle.bank.specs.declared.port.Port.{Port}

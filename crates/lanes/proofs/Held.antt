@@ -6,7 +6,7 @@ use mathlib.Core.Logic.{⊎-elim}
 use Prim.Native.Nat.{ℕ, _≤_, _<_}
 use native.Mathlib.Omega.{arith}
 use borrow.Author.Tests.{lt-ltb, le-ltb}
-use lib.ListN.{length, getD, set}
+use lib.ListN.{length, set}
 use Rattle.std.specs.shelf.Lists.{All}
 use Rattle.std.proofs.shelf.Lists.{map-set, getD-map, length-map, getD-past}
 use Rattle.std.proofs.shelf.Tests.{cases-lt}
@@ -16,7 +16,7 @@ use Rattle.table.specs.declared.refusal.Layer.the-variants.{Lanes}
 use Rattle.table.specs.declared.refusal.Reason.the-variants.{LaneFull}
 use Rattle.table.specs.Refusals.{refusal}
 use Rattle.lanes.specs.declared.lane.Lane.{Lane}
-use Rattle.lanes.specs.Queues.{Packet, isPacket, allPackets, queue, rest, LanesFit, arriveAnswer, arriveAfter}
+use Rattle.lanes.specs.Queues.{Packet, isPacket, allPackets, queue, LanesFit, arriveAnswer, arriveAfter}
 use Rattle.lanes.specs.OneLane.{laneRoom, held, noLane, laneAt, Orderly}
 use Rattle.lanes.proofs.Packets.{all-packets, each-set}
 use Rattle.lanes.proofs.Turns.{length-items}

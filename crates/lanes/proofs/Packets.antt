@@ -1,8 +1,8 @@
 -- Lists in which each is a packet, and what the queues of lanes become.
-use mathlib.Core.Path.{_≡_, refl, sym, ap, subst, _∙_}
+use mathlib.Core.Path.{_≡_, refl, sym, _∙_}
 use mathlib.Core.List.{List, [], _∷_, _++_}
-use mathlib.Core.Bool.{Bool, true, _&&_}
-use Prim.Native.Nat.{ℕ, _≤_, _<_}
+use mathlib.Core.Bool.{true}
+use Prim.Native.Nat.{ℕ, _<_}
 use native.Mathlib.Omega.{arith}
 use borrow.Author.Tests.{lt-ltb}
 use lib.ListN.{length, getD, set}
@@ -17,7 +17,7 @@ use Rattle.table.specs.Slots.{laneCount}
 use Rattle.table.specs.declared.refusal.Layer.the-variants.{Lanes}
 use Rattle.table.specs.declared.refusal.Reason.the-variants.{NoPacket}
 use Rattle.table.specs.Refusals.{refusal}
-use Rattle.lanes.specs.Queues.{mostBytes, Packet, isPacket, allPackets, queue, firstOf, rest, firstAnswer, taken, takeAnswer, takeAfter}
+use Rattle.lanes.specs.Queues.{mostBytes, Packet, isPacket, allPackets, queue, firstOf, rest, firstAnswer, takeAnswer, takeAfter}
 
 -- what holds of each of n elements does so after one is written
 pub each-set : {A : Type 0} (P : A → Type 0) (d : A) (xs : List A) (i : ℕ) (v : A) (n : ℕ) → length xs ≡ n

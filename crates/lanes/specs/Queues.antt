@@ -2,7 +2,7 @@
 use mathlib.Core.Path.{_≡_}
 use mathlib.Core.List.{List, [], _∷_, _++_}
 use mathlib.Core.Bool.{Bool, true, cond, _&&_}
-use Prim.Native.Nat.{ℕ, _≤_, _<_}
+use Prim.Native.Nat.{ℕ, _≤_}
 use lib.Dec.{ltb, leb}
 use lib.ListN.{length, getD, set, replicate}
 use Rattle.std.specs.shelf.Lists.{All}
@@ -57,6 +57,10 @@ rest (x ∷ xs) = xs
 abbrev pub asked : {X : Type 0} → Bool → Reason → Result X Refusal → Result X Refusal
 asked test reason next = cond test next (Err (refusal Lanes reason 0))
 
+-- The same for the queues, which stay where the question is answered no.
+abbrev pub onlyIf : Bool → List (List ℕ) → List (List ℕ) → List (List ℕ)
+onlyIf test qs next = cond test next qs
+
 -- the packet that waits first in a lane
 abbrev pub firstAnswer : List (List ℕ) → ℕ → Result (Option ℕ) Refusal
 firstAnswer qs lane = asked (ltb lane laneCount) NoSuchLane (Ok (firstOf (queue qs lane)))
@@ -72,7 +76,7 @@ takeAnswer qs lane = asked (ltb lane laneCount) NoSuchLane (taken (firstOf (queu
 
 -- the queues afterwards: in that lane those behind the first
 abbrev pub takeAfter : List (List ℕ) → ℕ → List (List ℕ)
-takeAfter qs lane = cond (ltb lane laneCount) (set qs lane (rest (queue qs lane))) qs
+takeAfter qs lane = onlyIf (ltb lane laneCount) qs (set qs lane (rest (queue qs lane)))
 
 -- no packet waits
 abbrev pub noPackets : List (List ℕ)
@@ -89,8 +93,7 @@ arriveAnswer room qs lane bytes =
 -- the queues afterwards: it stands at the end of that lane's
 abbrev pub arriveAfter : ℕ → List (List ℕ) → ℕ → ℕ → List (List ℕ)
 arriveAfter room qs lane bytes =
-    cond (ltb lane laneCount)
-    (cond (isPacket bytes)
-    (cond (ltb (length (queue qs lane)) room) (set qs lane (queue qs lane ++ (bytes ∷ []))) qs)
-    qs)
-    qs
+    onlyIf (ltb lane laneCount) qs
+    (onlyIf (isPacket bytes) qs
+    (onlyIf (ltb (length (queue qs lane)) room) qs
+    (set qs lane (queue qs lane ++ (bytes ∷ [])))))

@@ -1,11 +1,11 @@
 use mathlib.Core.Path.{_≡_, ap, _∙_}
 use mathlib.Core.List.{List, _++_}
-use Prim.Native.Nat.{ℕ, _*_, _≤_, _<_}
+use Prim.Native.Nat.{_*_}
 use native.Mathlib.Omega.{arith}
-use lib.ListN.{length, take, drop}
+use lib.ListN.{take, drop}
 use Rattle.table.specs.Slots.{slots}
 use Rattle.bank.specs.declared.port.Port.{Port}
-use Rattle.bank.specs.Ports.{portAt, slotAt, BankFits}
+use Rattle.bank.specs.Ports.{portAt, BankFits}
 use Rattle.bank.specs.Images.{imageOf, putSlot}
 use Rattle.bank.proofs.Images.{image-more}
 use Rattle.bank.proofs.Written.{image-answer, image-after, image-trip}

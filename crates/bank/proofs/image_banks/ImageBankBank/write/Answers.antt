@@ -1,15 +1,15 @@
 use mathlib.Core.Path.{_≡_, sym, ap, subst, _∙_}
 use mathlib.Core.List.{map}
-use Prim.Native.Nat.{_<_, _≤_, _+_, _*_}
+use Prim.Native.Nat.{_<_, _≤_}
 use native.Mathlib.Omega.{arith}
 use borrow.Author.Needs.{needs}
 use lib.ListN.{length, take, length-set}
 use Rattle.std.proofs.shelf.Lists.{length-map}
 use Rattle.std.specs.declared.result.Result.the-variants.{Err}
-use Rattle.table.specs.Slots.{slots, laneCount, mostWeight}
+use Rattle.table.specs.Slots.{laneCount, mostWeight}
 use Rattle.bank.specs.declared.port.Port.{Port}
 use Rattle.bank.specs.Ports.{mostPorts}
-use Rattle.bank.specs.Images.{imageBytes, putSlot}
+use Rattle.bank.specs.Images.{imageBytes}
 use Rattle.bank.specs.ImagePorts.{noImage, imageAt, portOf}
 use Rattle.bank.proofs.Each.{each-set}
 use Rattle.bank.proofs.Keeps.{EachSlot, each-slot-write}

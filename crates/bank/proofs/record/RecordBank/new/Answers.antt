@@ -1,7 +1,7 @@
 use mathlib.Core.Path.{_≡_, refl, sym, subst, ap, _∙_}
 use Prim.Native.Nat.{ℕ, min, _≤_, _<_}
 use native.Mathlib.Omega.{arith}
-use lib.ListN.{length, getD, take, replicate}
+use lib.ListN.{length, getD, replicate}
 use Rattle.table.specs.declared.slot.Slot.{Slot}
 use Rattle.table.specs.Slots.{slots, laneCount, mostWeight, emptySlot}
 use Rattle.bank.specs.declared.port.Port.{Port}

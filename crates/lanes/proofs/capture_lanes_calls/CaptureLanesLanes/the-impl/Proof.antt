@@ -1,401 +1,76 @@
--- The block `CaptureLanesLanes` meets its trait.
-use Rattle.lanes.proofs.capture_lanes_calls.CaptureLanesLanes.first.Met
-use Rattle.lanes.proofs.capture_lanes_calls.CaptureLanesLanes.first.Symbol
-use Rattle.lanes.proofs.capture_lanes_calls.CaptureLanesLanes.take.Met as Met'
-use Rattle.lanes.proofs.capture_lanes_calls.CaptureLanesLanes.take.Symbol as Symbol'
-use Rattle.lanes.proofs.capture_lanes_calls.CaptureLanesLanes.the-impl.Statement
-use Rattle.lanes.specs.contracts.capture_lanes.CaptureLanes
-use Rattle.lanes.specs.contracts.capture_lanes_calls.CaptureLanesLanes.first
-use Rattle.lanes.specs.contracts.capture_lanes_calls.CaptureLanesLanes.take
-use Rattle.lanes.specs.contracts.capture_lanes_calls.CaptureLanesLanes.the-impl
-use Rattle.lanes.specs.contracts.lanes.Lanes.first as first'
-use Rattle.lanes.specs.contracts.lanes.Lanes.take as take'
+-- The block `CaptureLanesLanes` meets its trait: the law, and each call at the lifetime of the bytes that are borrowed.
+use mathlib.Core.Path.{refl}
+use mathlib.Core.Bool.{true}
+use mathlib.Core.List.{[]}
+use Prim.Native.Nat.{ℕ}
+use base.Logic.{id⊢, emp}
+use contract.BorrowLft.{⊑-refl, ⊑-trans}
+use contract.Running.{givenOf, within}
+use denote.Param.{layouts}
+use denote.Ref.{NamedLft, now}
+use denote.Triple.End.{outs}
+use denote.Triple.Impl.{implements, insides-in, hidden, inside, to-emp}
+use denote.Triple.Less.{less}
+use denote.Triple.Spec.{tripleOf}
+use denote.Triple.Table.{run-framed, widened}
+use mir.Syntax.{Callee, method, erased}
+use Rattle.lanes.specs.contracts.capture_lanes.CaptureLanes.{the-row}
+use Rattle.lanes.specs.contracts.capture_lanes_calls.CaptureLanesLanes.the-impl.{ghosts, dict}
+use Rattle.lanes.specs.contracts.capture_lanes_calls.CaptureLanesLanes.first as F
+use Rattle.lanes.specs.contracts.capture_lanes_calls.CaptureLanesLanes.take as T
+use Rattle.lanes.specs.contracts.lanes.Lanes.first as TF
+use Rattle.lanes.specs.contracts.lanes.Lanes.take as TT
+use Rattle.lanes.proofs.capture_lanes_calls.CaptureLanesLanes.first.Met as first·met
+use Rattle.lanes.proofs.capture_lanes_calls.CaptureLanesLanes.first.Symbol as first·sym
+use Rattle.lanes.proofs.capture_lanes_calls.CaptureLanesLanes.take.Met as take·met
+use Rattle.lanes.proofs.capture_lanes_calls.CaptureLanesLanes.take.Symbol as take·sym
+use Rattle.lanes.proofs.capture_lanes_calls.CaptureLanesLanes.the-impl.Statement.{statement}
 use Rattle.lanes.proofs.Records.{captures-fit}
-use base.Logic
-use contract.BorrowLft
-use contract.Running
-use denote.Param
-use denote.Ref
-use denote.Triple.End
-use denote.Triple.Impl
-use denote.Triple.Less
-use denote.Triple.Spec
-use denote.Triple.Table
-use mathlib.Core.Bool
-use mathlib.Core.List
-use mathlib.Core.Path as Path'
-use mir.Syntax
 
-ruleset ends = (Logic.id⊢, Impl.to-emp, Less.less)
+ruleset ends = (id⊢, to-emp, less)
 
-ruleset parts = (
-  BorrowLft.⊑-refl,
-  BorrowLft.⊑-static,
-  BorrowLft.⊑-meet,
-  Impl.in-left,
-  Impl.in-right,
-)
+abbrev key : ℕ → Callee
+key i = method dict i (layouts [] tt)
 
-pub bound : Statement.statement
-bound = λ γ″' x'4 x'5 x'6 M' 𝓤' H' 𝓜' 𝓖' 𝓡'. let x'7 : Ref.NamedLft = record {
-  mir = Syntax.erased;
-  lft = x'6;
-} in record {
-  fits = λ l. captures-fit (Ref.now (l .bytes)) (l .next);
-  first = Impl.implements
-      𝓤'
-      H'
-      (𝓖' .A)
-      first.signature
-      2
-      (first'.ended (CaptureLanes.the-row x'7) the-impl.ghosts the-impl.dict .signature .outlives)
-      (λ τs'. (τs' .0, (x'7 .lft, tt)))
-      (Running.givenOf 𝓤' H' 𝓜' 𝓖')
-      (𝓡' .run (γ″' (Syntax.method the-impl.dict 0 (Param.layouts List.[] tt))))
-      (Table.run-framed
-      𝓤'
-      H'
-      𝓜'
-      𝓡'
-      (γ″' (Syntax.method the-impl.dict 0 (Param.layouts List.[] tt))))
-      (first.spec 𝓤' H' (𝓖' .A) (𝓜' .mem) (𝓡' .returns))
-      (λ τs'' a'. record {
-        ghost = first'.spec
-            (CaptureLanes.the-row x'7)
-            the-impl.ghosts
-            the-impl.dict
-            𝓤'
-            H'
-            (𝓖' .A)
-            (𝓜' .mem)
-            (𝓡' .returns)
-            τs''
-            a' .ghost;
-        requires = λ y'. first'.spec
-            (CaptureLanes.the-row x'7)
-            the-impl.ghosts
-            the-impl.dict
-            𝓤'
-            H'
-            (𝓖' .A)
-            (𝓜' .mem)
-            (𝓡' .returns)
-            τs''
-            a' .requires
-            y';
-        ensures = first'.spec
-            (CaptureLanes.the-row x'7)
-            the-impl.ghosts
-            the-impl.dict
-            𝓤'
-            H'
-            (𝓖' .A)
-            (𝓜' .mem)
-            (𝓡' .returns)
-            τs''
-            a' .ensures;
-      })
-      1
-      (λ τs'3. (τs'3 .1 .0, tt))
-      (λ τs'4. (CaptureLanes.the-row x'7 .lives, tt))
-      ((0, tt), ((1, tt), tt))
-      (λ τs'5 a'' y''. Logic.emp 𝓤')
-      (λ τs'6 a'3 y'3. Logic.id⊢
-      𝓤'
-      (first'.spec
-      (CaptureLanes.the-row x'7)
-      the-impl.ghosts
-      the-impl.dict
-      𝓤'
-      H'
-      (𝓖' .A)
-      (𝓜' .mem)
-      (𝓡' .returns)
-      τs'6
-      a'3 .requires
-      y'3))
-      (λ τs'7 h'. (
-        (
-          BorrowLft.⊑-refl (τs'7 .0),
-          (
-            BorrowLft.⊑-trans
-                (τs'7 .1 .0)
-                (τs'7 .1 .0)
-                (x'7 .lft)
-                (BorrowLft.⊑-refl (τs'7 .1 .0))
-                (BorrowLft.⊑-trans
-                (τs'7 .1 .0)
-                (CaptureLanes.the-row x'7 .lives)
-                (x'7 .lft)
-                (h' .1 .0)
-                (search Impl.inside depth 24 fits 20000)),
-            tt,
-          ),
-        ),
-        (
-          BorrowLft.⊑-trans
-              (τs'7 .0)
-              (τs'7 .1 .0)
-              (x'7 .lft)
-              (BorrowLft.⊑-trans
-              (τs'7 .0)
-              (τs'7 .0)
-              (τs'7 .1 .0)
-              (BorrowLft.⊑-refl (τs'7 .0))
-              (h' .0 .0))
-              (BorrowLft.⊑-trans
-              (τs'7 .1 .0)
-              (CaptureLanes.the-row x'7 .lives)
-              (x'7 .lft)
-              (h' .1 .0)
-              (search Impl.inside depth 24 fits 20000)),
-          tt,
-        ),
-      ))
-      (λ τs'8 a'4 y'4. y'4)
-      (λ τs'9 h'' a'5 y'5. Impl.insides-in 𝓤' 0 tt tt (Logic.emp 𝓤') tt)
-      (λ τs'10 a'6 y'6 r'. Impl.hidden
-      2
-      (τs'10 .0, (x'7 .lft, tt))
-      𝓤'
-      H'
-      (𝓖' .A)
-      (first.signature .params)
-      (first.ended .kept)
-      (Bool.true, (Bool.true, tt))
-      a'6
-      (λ ws'. first.clauses
-      𝓤'
-      H'
-      (𝓖' .A)
-      (𝓜' .mem)
-      (𝓡' .returns)
-      (τs'10 .0, (x'7 .lft, tt))
-      a'6 .ensures
-      y'6
-      r'
-      (End.outs {n = 2}
-      (τs'10 .0, (x'7 .lft, tt))
-      (first.ended .signature .params)
-      (first.ended .kept)
-      a'6
-      ws'))
-      (λ ws''. first'.clauses
-      (CaptureLanes.the-row x'7)
-      the-impl.ghosts
-      the-impl.dict
-      𝓤'
-      H'
-      (𝓖' .A)
-      (𝓜' .mem)
-      (𝓡' .returns)
-      τs'10
-      a'6 .ensures
-      y'6
-      r'
-      (End.outs {n = 2}
-      τs'10
-      (first'.ended (CaptureLanes.the-row x'7) the-impl.ghosts the-impl.dict .signature .params)
-      (first'.ended (CaptureLanes.the-row x'7) the-impl.ghosts the-impl.dict .kept)
-      a'6
-      ws''))
-      λ x'8. search ends depth 24 fits 20000)
-      (Table.widened
-      𝓤'
-      H'
-      (Spec.tripleOf
-      𝓤'
-      H'
-      (𝓖' .A)
-      first.signature
-      (first.spec 𝓤' H' (𝓖' .A) (𝓜' .mem) (𝓡' .returns)))
-      𝓜'
-      𝓡'
-      γ″'
-      (γ″' Symbol.name)
-      (γ″' (Syntax.method the-impl.dict 0 (Param.layouts List.[] tt)))
-      (Symbol.as-method
-      γ″'
-      x'4
-      (Syntax.method the-impl.dict 0 (Param.layouts List.[] tt))
-      Path'.refl)
-      (Met.met 𝓤' H' 𝓜' 𝓖' (Running.within 𝓤' H' 𝓜' 𝓡' γ″') x'4));
-  take = Impl.implements
-      𝓤'
-      H'
-      (𝓖' .A)
-      take.signature
-      2
-      (take'.ended (CaptureLanes.the-row x'7) the-impl.ghosts the-impl.dict .signature .outlives)
-      (λ τs'11. (τs'11 .0, (x'7 .lft, tt)))
-      (Running.givenOf 𝓤' H' 𝓜' 𝓖')
-      (𝓡' .run (γ″' (Syntax.method the-impl.dict 1 (Param.layouts List.[] tt))))
-      (Table.run-framed
-      𝓤'
-      H'
-      𝓜'
-      𝓡'
-      (γ″' (Syntax.method the-impl.dict 1 (Param.layouts List.[] tt))))
-      (take.spec 𝓤' H' (𝓖' .A) (𝓜' .mem) (𝓡' .returns))
-      (λ τs'12 a'7. record {
-        ghost = take'.spec
-            (CaptureLanes.the-row x'7)
-            the-impl.ghosts
-            the-impl.dict
-            𝓤'
-            H'
-            (𝓖' .A)
-            (𝓜' .mem)
-            (𝓡' .returns)
-            τs'12
-            a'7 .ghost;
-        requires = λ y'7. take'.spec
-            (CaptureLanes.the-row x'7)
-            the-impl.ghosts
-            the-impl.dict
-            𝓤'
-            H'
-            (𝓖' .A)
-            (𝓜' .mem)
-            (𝓡' .returns)
-            τs'12
-            a'7 .requires
-            y'7;
-        ensures = take'.spec
-            (CaptureLanes.the-row x'7)
-            the-impl.ghosts
-            the-impl.dict
-            𝓤'
-            H'
-            (𝓖' .A)
-            (𝓜' .mem)
-            (𝓡' .returns)
-            τs'12
-            a'7 .ensures;
-      })
-      1
-      (λ τs'13. (τs'13 .1 .0, tt))
-      (λ τs'14. (CaptureLanes.the-row x'7 .lives, tt))
-      ((0, tt), ((1, tt), tt))
-      (λ τs'15 a'8 y'8. Logic.emp 𝓤')
-      (λ τs'16 a'9 y'9. Logic.id⊢
-      𝓤'
-      (take'.spec
-      (CaptureLanes.the-row x'7)
-      the-impl.ghosts
-      the-impl.dict
-      𝓤'
-      H'
-      (𝓖' .A)
-      (𝓜' .mem)
-      (𝓡' .returns)
-      τs'16
-      a'9 .requires
-      y'9))
-      (λ τs'17 h'3. (
-        (
-          BorrowLft.⊑-refl (τs'17 .0),
-          (
-            BorrowLft.⊑-trans
-                (τs'17 .1 .0)
-                (τs'17 .1 .0)
-                (x'7 .lft)
-                (BorrowLft.⊑-refl (τs'17 .1 .0))
-                (BorrowLft.⊑-trans
-                (τs'17 .1 .0)
-                (CaptureLanes.the-row x'7 .lives)
-                (x'7 .lft)
-                (h'3 .1 .0)
-                (search Impl.inside depth 24 fits 20000)),
-            tt,
-          ),
-        ),
-        (
-          BorrowLft.⊑-trans
-              (τs'17 .0)
-              (τs'17 .1 .0)
-              (x'7 .lft)
-              (BorrowLft.⊑-trans
-              (τs'17 .0)
-              (τs'17 .0)
-              (τs'17 .1 .0)
-              (BorrowLft.⊑-refl (τs'17 .0))
-              (h'3 .0 .0))
-              (BorrowLft.⊑-trans
-              (τs'17 .1 .0)
-              (CaptureLanes.the-row x'7 .lives)
-              (x'7 .lft)
-              (h'3 .1 .0)
-              (search Impl.inside depth 24 fits 20000)),
-          tt,
-        ),
-      ))
-      (λ τs'18 a'10 y'10. y'10)
-      (λ τs'19 h'4 a'11 y'11. Impl.insides-in 𝓤' 0 tt tt (Logic.emp 𝓤') tt)
-      (λ τs'20 a'12 y'12 r''. Impl.hidden
-      2
-      (τs'20 .0, (x'7 .lft, tt))
-      𝓤'
-      H'
-      (𝓖' .A)
-      (take.signature .params)
-      (take.ended .kept)
-      (Bool.true, (Bool.true, tt))
-      a'12
-      (λ ws'3. take.clauses
-      𝓤'
-      H'
-      (𝓖' .A)
-      (𝓜' .mem)
-      (𝓡' .returns)
-      (τs'20 .0, (x'7 .lft, tt))
-      a'12 .ensures
-      y'12
-      r''
-      (End.outs {n = 2}
-      (τs'20 .0, (x'7 .lft, tt))
-      (take.ended .signature .params)
-      (take.ended .kept)
-      a'12
-      ws'3))
-      (λ ws'4. take'.clauses
-      (CaptureLanes.the-row x'7)
-      the-impl.ghosts
-      the-impl.dict
-      𝓤'
-      H'
-      (𝓖' .A)
-      (𝓜' .mem)
-      (𝓡' .returns)
-      τs'20
-      a'12 .ensures
-      y'12
-      r''
-      (End.outs {n = 2}
-      τs'20
-      (take'.ended (CaptureLanes.the-row x'7) the-impl.ghosts the-impl.dict .signature .params)
-      (take'.ended (CaptureLanes.the-row x'7) the-impl.ghosts the-impl.dict .kept)
-      a'12
-      ws'4))
-      λ x'9. search ends depth 24 fits 20000)
-      (Table.widened
-      𝓤'
-      H'
-      (Spec.tripleOf
-      𝓤'
-      H'
-      (𝓖' .A)
-      take.signature
-      (take.spec 𝓤' H' (𝓖' .A) (𝓜' .mem) (𝓡' .returns)))
-      𝓜'
-      𝓡'
-      γ″'
-      (γ″' Symbol'.name)
-      (γ″' (Syntax.method the-impl.dict 1 (Param.layouts List.[] tt)))
-      (Symbol'.as-method
-      γ″'
-      x'5
-      (Syntax.method the-impl.dict 1 (Param.layouts List.[] tt))
-      Path'.refl)
-      (Met'.met 𝓤' H' 𝓜' 𝓖' (Running.within 𝓤' H' 𝓜' 𝓡' γ″') x'5));
-}
+pub bound : statement
+bound γ w w′ κ M 𝓤 H 𝓜 𝓖 𝓡 =
+    let a : NamedLft = record { mir = erased; lft = κ } in
+    let A = 𝓖 .A in
+    let row = the-row a in
+    let first·c = F.spec 𝓤 H A (𝓜 .mem) (𝓡 .returns) in
+    let first·t = TF.spec row ghosts dict 𝓤 H A (𝓜 .mem) (𝓡 .returns) in
+    let take·c = T.spec 𝓤 H A (𝓜 .mem) (𝓡 .returns) in
+    let take·t = TT.spec row ghosts dict 𝓤 H A (𝓜 .mem) (𝓡 .returns) in
+    record {
+      fits = λ l. captures-fit (now (l .bytes)) (l .next);
+      first = implements 𝓤 H A F.signature 2 (TF.ended row ghosts dict .signature .outlives) (λ τs. (τs .0, (κ, tt))) (givenOf 𝓤 H 𝓜 𝓖)
+          (𝓡 .run (γ (key 0))) (run-framed 𝓤 H 𝓜 𝓡 (γ (key 0))) first·c (λ τs x. record { ghost = first·t τs x .ghost; requires = λ y. first·t τs x .requires y; ensures = first·t τs x .ensures }) 1 (λ τs. (τs .1 .0, tt)) (λ τs. (row .lives, tt)) ((0, tt), ((1, tt), tt))
+          (λ τs x y. emp 𝓤)
+          (λ τs x y. id⊢ 𝓤 (first·t τs x .requires y))
+          (λ τs h.
+              let borrowed = ⊑-trans (τs .1 .0) (row .lives) κ (h .1 .0) (search inside depth 24 fits 20000) in
+              ((⊑-refl (τs .0), (borrowed, tt)), (⊑-trans (τs .0) (τs .1 .0) κ (h .0 .0) borrowed, tt)))
+          (λ τs x y. y)
+          (λ τs h x y. insides-in 𝓤 0 tt tt (emp 𝓤) tt)
+          (λ τs x y r.
+              hidden 2 (τs .0, (κ, tt)) 𝓤 H A (F.signature .params) (F.ended .kept) (true, (true, tt)) x
+              (λ ws. F.clauses 𝓤 H A (𝓜 .mem) (𝓡 .returns) (τs .0, (κ, tt)) x .ensures y r (outs {n = 2} (τs .0, (κ, tt)) (F.ended .signature .params) (F.ended .kept) x ws))
+              (λ ws. TF.clauses row ghosts dict 𝓤 H A (𝓜 .mem) (𝓡 .returns) τs x .ensures y r (outs {n = 2} τs (TF.ended row ghosts dict .signature .params) (TF.ended row ghosts dict .kept) x ws))
+              (λ _. search ends depth 24 fits 20000))
+          (widened 𝓤 H (tripleOf 𝓤 H A F.signature first·c) 𝓜 𝓡 γ (γ first·sym.name) (γ (key 0)) (first·sym.as-method γ w (key 0) refl) (first·met.met 𝓤 H 𝓜 𝓖 (within 𝓤 H 𝓜 𝓡 γ) w));
+      take = implements 𝓤 H A T.signature 2 (TT.ended row ghosts dict .signature .outlives) (λ τs. (τs .0, (κ, tt))) (givenOf 𝓤 H 𝓜 𝓖)
+          (𝓡 .run (γ (key 1))) (run-framed 𝓤 H 𝓜 𝓡 (γ (key 1))) take·c (λ τs x. record { ghost = take·t τs x .ghost; requires = λ y. take·t τs x .requires y; ensures = take·t τs x .ensures }) 1 (λ τs. (τs .1 .0, tt)) (λ τs. (row .lives, tt)) ((0, tt), ((1, tt), tt))
+          (λ τs x y. emp 𝓤)
+          (λ τs x y. id⊢ 𝓤 (take·t τs x .requires y))
+          (λ τs h.
+              let borrowed = ⊑-trans (τs .1 .0) (row .lives) κ (h .1 .0) (search inside depth 24 fits 20000) in
+              ((⊑-refl (τs .0), (borrowed, tt)), (⊑-trans (τs .0) (τs .1 .0) κ (h .0 .0) borrowed, tt)))
+          (λ τs x y. y)
+          (λ τs h x y. insides-in 𝓤 0 tt tt (emp 𝓤) tt)
+          (λ τs x y r.
+              hidden 2 (τs .0, (κ, tt)) 𝓤 H A (T.signature .params) (T.ended .kept) (true, (true, tt)) x
+              (λ ws. T.clauses 𝓤 H A (𝓜 .mem) (𝓡 .returns) (τs .0, (κ, tt)) x .ensures y r (outs {n = 2} (τs .0, (κ, tt)) (T.ended .signature .params) (T.ended .kept) x ws))
+              (λ ws. TT.clauses row ghosts dict 𝓤 H A (𝓜 .mem) (𝓡 .returns) τs x .ensures y r (outs {n = 2} τs (TT.ended row ghosts dict .signature .params) (TT.ended row ghosts dict .kept) x ws))
+              (λ _. search ends depth 24 fits 20000))
+          (widened 𝓤 H (tripleOf 𝓤 H A T.signature take·c) 𝓜 𝓡 γ (γ take·sym.name) (γ (key 1)) (take·sym.as-method γ w′ (key 1) refl) (take·met.met 𝓤 H 𝓜 𝓖 (within 𝓤 H 𝓜 𝓡 γ) w′));
+    }
