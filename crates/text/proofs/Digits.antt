@@ -36,7 +36,7 @@ digits-more s (b ∷ bs) h d le =
     rw (digit-way (within 48 57 b) (within 97 122 b) (eqb b 32) d, le-leb (s * 10 + (b - 48)) most le, take-all (suc (length bs) - 1) bs (omega arith))
 
 -- are all bytes digits?
-abbrev digs : List ℕ → Bool
+abbrev pub digs : List ℕ → Bool
 digs [] = true
 digs (b ∷ bs) = cond (within 48 57 b) (digs bs) false
 
@@ -47,6 +47,9 @@ readOn s (b ∷ bs) = readOn (s * 10 + (b - 48)) bs
 
 own : Numerals (λ ds. digs ds ≡ true) (readOn 0)
 own = numerals-by-fold _ (search needs) readOn (search needs)
+
+pub decimal-digs : (n : ℕ) → n ≤ most → digs (decimal n) ≡ true
+decimal-digs n h = digits-decimal own n (omega arith)
 
 pick : (n : ℕ) (w l : Bool) (x : Option ℕ) → cond w (cond l x None) None ≡ Some n → (w ≡ true) × (l ≡ true) × (x ≡ Some n)
 pick n true true x e = (refl, refl, e)

@@ -17,8 +17,8 @@ use Rattle.std.specs.declared.option.Option.the-variants.{Some, None}
 use Rattle.table.specs.declared.refusal.Reason.the-variants.{WrongCount}
 use Rattle.table.specs.declared.refusal.Refusal.{Refusal}
 use Rattle.text.specs.declared.numbers.Given.{Given}
-use Rattle.text.specs.declared.command.Form.{Form}
-use Rattle.text.specs.declared.command.Form.the-variants.{Reserve, Release, Shut, Reopen, Table}
+use Rattle.text.specs.declared.form.Form.{Form}
+use Rattle.text.specs.declared.form.Form.the-variants.{Reserve, Release, Shut, Reopen, Table}
 use Rattle.text.specs.declared.field.Field.{Field}
 use Rattle.text.specs.declared.fields.Fields.{Fields}
 use Rattle.text.specs.Tokens.{Token, number, told, tokensOf}

@@ -3,3 +3,4 @@ pub mod Cuts
 pub mod Gathers
 pub mod Puts
 pub mod Ends
+pub mod Readings

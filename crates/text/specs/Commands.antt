@@ -15,8 +15,8 @@ use Rattle.table.specs.declared.refusal.Reason.{Reason}
 use Rattle.table.specs.declared.refusal.Reason.the-variants.{UnknownWord, NotANumber, WrongCount}
 use Rattle.table.specs.declared.refusal.Refusal.{Refusal}
 use Rattle.table.specs.Refusals.{refusal}
-use Rattle.text.specs.declared.command.Form.{Form}
-use Rattle.text.specs.declared.command.Form.the-variants.{Reserve, Release, Shut, Reopen, Table}
+use Rattle.text.specs.declared.form.Form.{Form}
+use Rattle.text.specs.declared.form.Form.the-variants.{Reserve, Release, Shut, Reopen, Table}
 use Rattle.text.specs.declared.numbers.Given.{Given}
 use Rattle.text.specs.Sizes.{mostPorts}
 use Rattle.text.specs.Tokens.{Token, word, number, stray, tokensOf}

@@ -1,6 +1,5 @@
 -- The first numbers of a line: as many as a form takes, and one more, which is surplus to every form.
 use mathlib.Core.List.{List}
-use Prim.Native.Nat.{ℕ}
 use lib.ListN.{take}
 use Rattle.std.specs.declared.option.Option.{Option}
 use Rattle.std.specs.declared.option.Option.the-variants.{Some, None}
@@ -9,7 +8,7 @@ use Rattle.std.specs.declared.result.Result.the-variants.{Ok, Err}
 use Rattle.table.specs.declared.refusal.Reason.the-variants.{UnknownWord}
 use Rattle.table.specs.declared.refusal.Refusal.{Refusal}
 use Rattle.text.specs.declared.field.Field.{Field}
-use Rattle.text.specs.declared.command.Form.{Form}
+use Rattle.text.specs.declared.form.Form.{Form}
 use Rattle.text.specs.declared.numbers.Given.{Given}
 use Rattle.text.specs.declared.numbers.Numbers.{Numbers}
 use Rattle.text.specs.Sizes.{keep}

@@ -10,3 +10,4 @@ pub mod Gathered
 pub mod Answers
 pub mod Lines
 pub mod Feed
+pub mod Spelled

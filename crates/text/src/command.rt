@@ -1,9 +1,7 @@
 ghost use mathlib.Core.Path.{_≡_};
 ghost use mathlib.Core.List.{_++_, _∷_, []};
 ghost use Prim.Native.Nat.{_+_, _<_};
-ghost use Rattle.std.specs.shelf.Text.{sameBytes};
 ghost use Rattle.text.specs.Sizes.{mostPorts};
-ghost use Rattle.text.specs.Commands.{formOf, fewest, most};
 ghost use Rattle.text.specs.Told.{portsOf};
 use crate::path::MOST_PORTS;
 use crate::path::Path;
@@ -21,16 +19,6 @@ pub enum Command {
     Shut(usize),
     Reopen(usize),
     Table(usize),
-}
-
-// The form of a line, by its first word.
-#[derive(Clone, Copy)]
-pub enum Form {
-    Reserve,
-    Release,
-    Shut,
-    Reopen,
-    Table,
 }
 
 impl Path {
@@ -58,51 +46,5 @@ impl Path {
         let len = self.len;
         self.ports[len] = port;
         self.len = len + 1;
-    }
-}
-
-fn same(word: &[u8], name: &[u8]) -> bool
-    ensures { λ r. ⌜ r ≡ sameBytes (now (word .entry)) (now (name .entry)) ⌝ }
-{
-    word == name
-}
-
-impl Form {
-    pub fn of(word: &[u8]) -> Option<Form>
-        ensures { λ r. ⌜ r ≡ formOf (now (word .entry)) ⌝ }
-    {
-        if same(word, b"reserve") {
-            Some(Form::Reserve)
-        } else if same(word, b"release") {
-            Some(Form::Release)
-        } else if same(word, b"shut") {
-            Some(Form::Shut)
-        } else if same(word, b"reopen") {
-            Some(Form::Reopen)
-        } else if same(word, b"table") {
-            Some(Form::Table)
-        } else {
-            None
-        }
-    }
-
-    // The fewest numbers that follow the word.
-    pub fn fewest(self) -> usize
-        ensures { λ r. ⌜ r ≡ fewest self ⌝ }
-    {
-        match self {
-            Form::Reserve => 4,
-            _ => 1,
-        }
-    }
-
-    // The most numbers that follow the word.
-    pub fn most(self) -> usize
-        ensures { λ r. ⌜ r ≡ most self ⌝ }
-    {
-        match self {
-            Form::Reserve => 3 + MOST_PORTS,
-            _ => 1,
-        }
     }
 }

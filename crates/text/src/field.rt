@@ -26,7 +26,7 @@ fn all_letters(text: &[u8]) -> bool
 }
 
 // The field that the bytes `text` at `place` are.
-pub fn read_field<'a>(text: &'a [u8], place: usize) -> Field<'a>
+pub(crate) fn read_field<'a>(text: &'a [u8], place: usize) -> Field<'a>
     ensures { λ r. ⌜ told r ≡ tokenOf (part place (now (text .entry))) ⌝ }
 {
     if let Some(n) = number(text) {

@@ -16,7 +16,7 @@ use table::refusal::Reason;
 use table::refusal::Refusal;
 
 impl Numbers {
-    pub fn none() -> Numbers
+    pub(crate) fn none() -> Numbers
         ensures { λ r. ⌜ itemsOf r ≡ [] ⌝ }
     {
         Numbers {
@@ -26,7 +26,7 @@ impl Numbers {
     }
 
     // One more number, which is dropped where enough are kept.
-    pub fn push(&mut self, value: u32, place: usize)
+    pub(crate) fn push(&mut self, value: u32, place: usize)
         ensures { λ _. ⌜ itemsOf (now (self .exit)) ≡ take keep (itemsOf (now (self .entry)) ++ (given value place ∷ [])) ⌝ }
     {
         let len = self.len;
@@ -36,7 +36,7 @@ impl Numbers {
         }
     }
 
-    pub fn as_slice(&self) -> &[Given]
+    pub(crate) fn as_slice(&self) -> &[Given]
         ensures { λ r. ⌜ now r ≡ itemsOf (now (self .entry)) ⌝ }
     {
         &self.items[0..self.len]
@@ -44,7 +44,7 @@ impl Numbers {
 }
 
 // The numbers that the fields are, unless one of them is none.
-pub fn gather(rest: Fields) -> Result<Numbers, Refusal>
+pub(crate) fn gather(rest: Fields) -> Result<Numbers, Refusal>
     ensures { λ r. ⌜ gathered r ≡ kept (numbersIn (toCome (rest .entry))) ⌝ }
 {
     let mut numbers = Numbers::none();

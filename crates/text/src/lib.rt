@@ -6,6 +6,7 @@ pub mod cut;
 pub mod feed;
 pub mod field;
 pub mod fields;
+mod form;
 mod gather;
 pub mod lines;
 pub mod number;

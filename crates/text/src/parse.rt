@@ -5,12 +5,13 @@ ghost use lib.ListN.{length};
 ghost use Rattle.text.specs.Sizes.{mostPorts};
 ghost use Rattle.text.specs.Commands.{fewest, most, valueOf, asks, byCount, commandOf};
 ghost use Rattle.text.specs.Gathered.{formFirst};
+ghost use Rattle.text.specs.Spelled.{Reads};
 ghost use Rattle.text.specs.Told.{portsOf, askedBy, answered};
 use crate::command::Command;
-use crate::command::Form;
 use crate::cut::FieldsIterator;
 use crate::cut::fields;
 use crate::field::Field;
+use crate::form::Form;
 use crate::gather::gather;
 use crate::numbers::Given;
 use crate::path::Path;
@@ -74,12 +75,19 @@ fn counted(form: Form, numbers: &[Given], end: usize) -> Result<Command, Refusal
     Ok(command_of(form, numbers))
 }
 
-// What a line asks for, or the first of its three questions that is answered no.
-pub fn parse(line: &[u8]) -> Result<Command, Refusal>
+fn read_command(line: &[u8]) -> Result<Command, Refusal>
     ensures { λ r. ⌜ answered r ≡ commandOf (now (line .entry)) ⌝ }
 {
     let mut rest = fields(line);
     let form = form_of(rest.next())?;
     let numbers = gather(rest)?;
     counted(form, numbers.as_slice(), line.len())
+}
+
+// What a line asks for, or the first of its three questions that is answered no. A command comes just from its own line.
+pub fn parse(line: &[u8]) -> Result<Command, Refusal>
+    ensures command { λ r. ⌜ answered r ≡ commandOf (now (line .entry)) ⌝ }
+    ensures reads { λ r. ⌜ Reads (now (line .entry)) (answered r) ⌝ }
+{
+    read_command(line)
 }

@@ -6,7 +6,7 @@ use table::refusal::Reason;
 use table::refusal::Refusal;
 
 // A line's refusal at a place.
-pub fn refuse(reason: Reason, place: usize) -> Refusal
+pub(crate) fn refuse(reason: Reason, place: usize) -> Refusal
     ensures { λ r. ⌜ r ≡ refusal Sheet reason place ⌝ }
 {
     Refusal {
