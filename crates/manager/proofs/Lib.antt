@@ -1,0 +1,11 @@
+pub mod Verdicts
+pub mod Keeps
+pub mod Steps
+pub mod Along
+pub mod Ways
+pub mod Kept
+pub mod Waits
+pub mod Declines
+pub mod Admission
+pub mod Theorem
+pub mod Performs

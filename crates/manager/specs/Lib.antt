@@ -1,0 +1,5 @@
+pub mod Calls
+pub mod Histories
+pub mod Questions
+pub mod Worlds
+pub mod Guarantee
