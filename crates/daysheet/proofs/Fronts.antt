@@ -29,18 +29,14 @@ made-as (Ok x) P Q f p = f x p
 made-as (Err e) P Q f p = tt
 
 -- one more line answered
-pub line-more : (s t : State) (ps qs : List Port) (line : List ℕ) (before after whole : List ℕ) (lines left : List (List ℕ))
-    → before ++ answersFrom s ps lines ≡ whole → lines ≡ line ∷ left → after ≡ before ++ answerText (obeyed s ps line .answer)
-    → t ≡ obeyed s ps line .state → qs ≡ obeyed s ps line .ports → after ++ answersFrom t qs left ≡ whole
-line-more s t ps qs line before after whole lines left inv is added state ports =
-    (λ i. added i ++ answersFrom (state i) (ports i) left)
-    ∙ append-assoc before (answerText (obeyed s ps line .answer)) (answersFrom (obeyed s ps line .state) (obeyed s ps line .ports) left)
-    ∙ ap (λ ls. before ++ answersFrom s ps ls) (sym is)
+pub line-more : (s t : State) (ps ps′ : List Port) (qs qs′ : List (List ℕ)) (line : List ℕ) (before after whole : List ℕ) (lines left : List (List ℕ))
+    → before ++ answersFrom s ps qs lines ≡ whole → lines ≡ line ∷ left → after ≡ before ++ answerText (obeyed s ps qs line .answer)
+    → t ≡ obeyed s ps qs line .state → ps′ ≡ obeyed s ps qs line .ports → qs′ ≡ obeyed s ps qs line .queues → after ++ answersFrom t ps′ qs′ left ≡ whole
+line-more s t ps ps′ qs qs′ line before after whole lines left inv is added state ports queues =
+    (λ i. added i ++ answersFrom (state i) (ports i) (queues i) left)
+    ∙ append-assoc before (answerText (obeyed s ps qs line .answer)) (answersFrom (obeyed s ps qs line .state) (obeyed s ps qs line .ports) (obeyed s ps qs line .queues) left)
+    ∙ ap (λ ls. before ++ answersFrom s ps qs ls) (sym is)
     ∙ inv
-
--- all lines answered
-pub line-all : (s : State) (ps : List Port) (before whole : List ℕ) (lines : List (List ℕ)) → before ++ answersFrom s ps lines ≡ whole → lines ≡ [] → before ≡ whole
-line-all s ps before whole lines inv is = sym (append-nil before) ∙ ap (λ ls. before ++ answersFrom s ps ls) (sym is) ∙ inv
 
 -- a sheet that is too long
 pub too-long : (input : List ℕ) → mostBytes < length input → noText LongInput 0 ≡ sheetText input

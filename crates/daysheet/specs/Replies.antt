@@ -16,66 +16,73 @@ use Rattle.bank.specs.Ports.{portAt}
 use Rattle.bank.specs.Images.{imageOf}
 use Rattle.fabric.specs.declared.declined.Declined.{Declined}
 use Rattle.fabric.specs.Declines.{byBank}
-use Rattle.fabric.specs.States.{State, Outcome}
-use Rattle.fabric.specs.Reserving.{Reservation, reserveCall}
-use Rattle.fabric.specs.Releasing.{releaseCall}
-use Rattle.fabric.specs.Shutting.{shutCall, reopenCall}
-use Rattle.daysheet.specs.declared.reply.Said.{Said}
-use Rattle.daysheet.specs.declared.reply.Said.the-variants.{Nothing, Released, Reserved, Image}
-use Rattle.daysheet.specs.declared.reply.LineRefusal.{LineRefusal}
-use Rattle.daysheet.specs.declared.reply.Reply.{Reply}
+use Rattle.fabric.specs.States.{State}
+use Rattle.manager.specs.declared.call.Answer.{Answer}
+use Rattle.manager.specs.declared.call.Answer.the-variants.{Started, Reserved, Released, Shut, Reopened, Picked}
+use Rattle.manager.specs.Calls as Ask
+use Rattle.manager.specs.Calls.{Performed, performed}
 use Rattle.text.specs.Answers.{Wrote, okText, imageText, noText}
 use Rattle.text.specs.Commands.{Asked, reserve, release, shut, reopen, table, commandOf}
+use Rattle.daysheet.specs.declared.reply.Said.{Said}
+use Rattle.daysheet.specs.declared.reply.Said.the-variants.{Nothing, Image, Released as SaidReleased, Reserved as SaidReserved}
+use Rattle.daysheet.specs.declared.reply.LineRefusal.{LineRefusal}
+use Rattle.daysheet.specs.declared.reply.Reply.{Reply}
 
--- what is answered to a command, with the fabric and the ports of the bank after it
-abbrev pub Acted : Type 0
-Acted = Outcome Said
+-- what is answered to a command, with the fabric, the ports of the bank and the queues of the lanes after it
+pub record Acted : Type 0 where
+  pub answer : Result Said Declined
+  pub state : State
+  pub ports : List Port
+  pub queues : List (List ℕ)
 
-abbrev pub saidReserved : Result Reservation Declined → Result Said Declined
-saidReserved (Ok r) = Ok (Reserved (r .0) (r .1) (r .2))
-saidReserved (Err e) = Err e
+abbrev pub acting : Result Said Declined → State → List Port → List (List ℕ) → Acted
+acting r s ps qs = record { answer = r; state = s; ports = ps; queues = qs }
 
-abbrev pub saidReleased : Result ℕ Declined → Result Said Declined
-saidReleased (Ok n) = Ok (Released n)
-saidReleased (Err e) = Err e
+-- what the manager answers, in the sheet's words
+abbrev pub saidOf : Answer → Said
+saidOf Started = Nothing
+saidOf (Reserved t g n) = SaidReserved t g n
+saidOf (Released n) = SaidReleased n
+saidOf Shut = Nothing
+saidOf Reopened = Nothing
+saidOf (Picked p) = Nothing
 
-abbrev pub saidNothing : Result (Unit {0}) Declined → Result Said Declined
-saidNothing (Ok u) = Ok Nothing
-saidNothing (Err e) = Err e
+abbrev pub saidAs : Result Answer Declined → Result Said Declined
+saidAs (Ok a) = Ok (saidOf a)
+saidAs (Err e) = Err e
 
--- the answer of a call in the sheet's words
-abbrev pub saying : {A : Type 0} → (Result A Declined → Result Said Declined) → Outcome A → Acted
-saying say o = record { answer = say (o .answer); state = o .state; ports = o .ports }
+abbrev pub saying : Performed → Acted
+saying o = acting (saidAs (o .answer)) (o .state) (o .ports) (o .queues)
 
 -- a table is told of a port that is there
 abbrev pub tableAnswer : List Port → ℕ → Result Said Declined
 tableAnswer ps p = cond (ltb p (length ps)) (Ok (Image (imageOf (portAt ps p .slots)))) (Err (byBank NoSuchPort 0))
 
--- what a command does
-abbrev pub acted : State → List Port → Asked → Acted
-acted s ps (reserve n l w path) = saying saidReserved (reserveCall s ps n l w path)
-acted s ps (release n) = saying saidReleased (releaseCall s ps n)
-acted s ps (shut p) = saying saidNothing (shutCall s ps p)
-acted s ps (reopen p) = saying saidNothing (reopenCall s ps p)
-acted s ps (table p) = record { answer = tableAnswer ps p; state = s; ports = ps }
+-- what a command does: the manager performs it, or a table is told
+abbrev pub acted : State → List Port → List (List ℕ) → Asked → Acted
+acted s ps qs (reserve n l w path) = saying (performed s ps qs (Ask.reserve n l w path))
+acted s ps qs (release n) = saying (performed s ps qs (Ask.release n))
+acted s ps qs (shut p) = saying (performed s ps qs (Ask.shut p))
+acted s ps qs (reopen p) = saying (performed s ps qs (Ask.reopen p))
+acted s ps qs (table p) = acting (tableAnswer ps p) s ps qs
 
 -- a refusal that the sheet found
 abbrev pub bySheet : Refusal → Declined
 bySheet r = record { refusal = r; place = r .place }
 
 -- what a line does, by what it asks for
-abbrev pub obeying : State → List Port → Result Asked Refusal → Acted
-obeying s ps (Ok a) = acted s ps a
-obeying s ps (Err e) = record { answer = Err (bySheet e); state = s; ports = ps }
+abbrev pub obeying : State → List Port → List (List ℕ) → Result Asked Refusal → Acted
+obeying s ps qs (Ok a) = acted s ps qs a
+obeying s ps qs (Err e) = acting (Err (bySheet e)) s ps qs
 
-unfoldable pub obeyed : State → List Port → List ℕ → Acted
-obeyed s ps line = obeying s ps (commandOf line)
+unfoldable pub obeyed : State → List Port → List (List ℕ) → List ℕ → Acted
+obeyed s ps qs line = obeying s ps qs (commandOf line)
 
 -- the text of an accepted line's answer
 abbrev pub saidText : Said → List ℕ
 saidText Nothing = okText []
-saidText (Released n) = okText (n ∷ [])
-saidText (Reserved t g n) = okText (t ∷ g ∷ n ∷ [])
+saidText (SaidReleased n) = okText (n ∷ [])
+saidText (SaidReserved t g n) = okText (t ∷ g ∷ n ∷ [])
 saidText (Image bs) = imageText bs
 
 -- the text of a line's answer
@@ -93,17 +100,19 @@ abbrev pub lineRefusal : ℕ → Option Declined → Option LineRefusal
 lineRefusal number None = None
 lineRefusal number (Some e) = Some (record { refusal = e .refusal; place = e .place; line = number })
 
--- A line is answered: its text stands at the front of the buffer, whose rest is as it was, and the refusal, the fabric and the ports are those that
--- its command gives.
-pub record Responds (acted : Acted) (was new : List ℕ) (bytes : ℕ) (declined : Option Declined) (s : State) (ps : List Port) : Type 0 where
+-- A line is answered: its text stands at the front of the buffer, whose rest is as it was, and the refusal, the fabric, the ports and the lanes are those
+-- that its command gives.
+pub record Responds (acted : Acted) (was new : List ℕ) (bytes : ℕ) (declined : Option Declined) (s : State) (ps : List Port) (qs : List (List ℕ)) : Type 0 where
   pub text : Wrote was new 0 bytes (answerText (acted .answer))
   pub refused : declined ≡ refusalOf (acted .answer)
   pub state : s ≡ acted .state
   pub ports : ps ≡ acted .ports
+  pub queues : qs ≡ acted .queues
 
 -- Line `number` is answered so, with its number beside a refusal.
-pub record Answers (number : ℕ) (acted : Acted) (was new : List ℕ) (r : Reply) (s : State) (ps : List Port) : Type 0 where
+pub record Answers (number : ℕ) (acted : Acted) (was new : List ℕ) (r : Reply) (s : State) (ps : List Port) (qs : List (List ℕ)) : Type 0 where
   pub text : Wrote was new 0 (r .bytes) (answerText (acted .answer))
   pub refused : r .refused ≡ lineRefusal number (refusalOf (acted .answer))
   pub state : s ≡ acted .state
   pub ports : ps ≡ acted .ports
+  pub queues : qs ≡ acted .queues

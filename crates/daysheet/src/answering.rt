@@ -1,9 +1,9 @@
 // The answer to a line: its command is carried out, and the answer line written into a lent buffer.
 ghost use mathlib.Core.Path.{_≡_};
-ghost use Rattle.fabric.specs.States.{meaning, outcome};
+ghost use Rattle.fabric.specs.States.{meaning};
 ghost use Rattle.text.specs.Told.{askedBy};
 ghost use Rattle.text.specs.Answers.{Wrote};
-ghost use Rattle.daysheet.specs.Replies.{tableAnswer, acted, obeyed, saidText, lineRefusal, Responds, Answers};
+ghost use Rattle.daysheet.specs.Replies.{tableAnswer, saidAs, acting, acted, obeyed, saidText, lineRefusal, Responds, Answers};
 use text::answer::ANSWER;
 use text::answer::IMAGE;
 use text::answer::write_no;
@@ -20,6 +20,10 @@ use bank::bank::Bank;
 use bank::image::write_image;
 use fabric::declined::Declined;
 use fabric::fabric::Fabric;
+use lanes::lanes::Lanes;
+use manager::call::Answer;
+use manager::call::Call;
+use manager::performing::perform;
 
 // The image of a port's table.
 fn tell_table<B: Bank>(bank: &B, port: usize) -> Result<Said, Declined>
@@ -32,34 +36,40 @@ fn tell_table<B: Bank>(bank: &B, port: usize) -> Result<Said, Declined>
     }
 }
 
+// What the manager answers, in the sheet's words.
+fn said(answer: Result<Answer, Declined>) -> Result<Said, Declined>
+    ensures { λ r. ⌜ r ≡ saidAs answer ⌝ }
+{
+    match answer {
+        Ok(Answer::Reserved(spacing, grant, slots)) => Ok(Said::Reserved(spacing, grant, slots)),
+        Ok(Answer::Released(slots)) => Ok(Said::Released(slots)),
+        Ok(_) => Ok(Said::Nothing),
+        Err(declined) => Err(declined),
+    }
+}
+
 // Carries out a command.
-fn act<B: Bank>(fabric: &mut Fabric, bank: &mut B, command: &Command) -> Result<Said, Declined>
-    ensures { λ r. ⌜ outcome r (meaning (now (fabric .exit))) (ports (now (bank .exit))) ≡ acted (meaning (now (fabric .entry))) (ports (now (bank .entry))) (askedBy (now (command .entry))) ⌝ }
+fn act<B: Bank, L: Lanes>(fabric: &mut Fabric, bank: &mut B, lanes: &mut L, command: &Command) -> Result<Said, Declined>
+    ensures { λ r. ⌜ acting r (meaning (now (fabric .exit))) (ports (now (bank .exit))) (queues (now (lanes .exit))) ≡ acted (meaning (now (fabric .entry))) (ports (now (bank .entry))) (queues (now (lanes .entry))) (askedBy (now (command .entry))) ⌝ }
 {
     match command {
         Command::Reserve { number, level, weight, path } => {
-            let (spacing, grant, slots) = fabric.reserve(bank, *number, *level, *weight, path.as_slice())?;
-            Ok(Said::Reserved(spacing, grant, slots))
+            let path = path.as_slice();
+            said(perform(fabric, bank, lanes, Call::Reserve { number: *number, level: *level, weight: *weight, path }))
         }
-        Command::Release(number) => Ok(Said::Released(fabric.release(bank, *number)?)),
-        Command::Shut(port) => {
-            fabric.shut(bank, *port)?;
-            Ok(Said::Nothing)
-        }
-        Command::Reopen(port) => {
-            fabric.reopen(bank, *port)?;
-            Ok(Said::Nothing)
-        }
+        Command::Release(number) => said(perform(fabric, bank, lanes, Call::release(*number))),
+        Command::Shut(port) => said(perform(fabric, bank, lanes, Call::shut(*port))),
+        Command::Reopen(port) => said(perform(fabric, bank, lanes, Call::reopen(*port))),
         Command::Table(port) => tell_table(bank, *port),
     }
 }
 
 // Carries out a line's command, or refuses the line.
-fn obey<B: Bank>(fabric: &mut Fabric, bank: &mut B, line: &[u8]) -> Result<Said, Declined>
-    ensures { λ r. ⌜ outcome r (meaning (now (fabric .exit))) (ports (now (bank .exit))) ≡ obeyed (meaning (now (fabric .entry))) (ports (now (bank .entry))) (now (line .entry)) ⌝ }
+fn obey<B: Bank, L: Lanes>(fabric: &mut Fabric, bank: &mut B, lanes: &mut L, line: &[u8]) -> Result<Said, Declined>
+    ensures { λ r. ⌜ acting r (meaning (now (fabric .exit))) (ports (now (bank .exit))) (queues (now (lanes .exit))) ≡ obeyed (meaning (now (fabric .entry))) (ports (now (bank .entry))) (queues (now (lanes .entry))) (now (line .entry)) ⌝ }
 {
     match parse(line) {
-        Ok(command) => act(fabric, bank, &command),
+        Ok(command) => act(fabric, bank, lanes, &command),
         Err(refusal) => Err(Declined { refusal, place: refusal.place }),
     }
 }
@@ -77,20 +87,20 @@ fn write_said(out: &mut [u8; ANSWER], said: &Said) -> usize
 }
 
 // Answers a line: its answer stands at the front of the buffer, whose rest stays as it was. Answers how many bytes it has, or the refusal with them.
-pub(crate) fn respond<B: Bank>(fabric: &mut Fabric, bank: &mut B, line: &[u8], out: &mut [u8; ANSWER]) -> (usize, Option<Declined>)
-    ensures { λ r. ⌜ Responds (obeyed (meaning (now (fabric .entry))) (ports (now (bank .entry))) (now (line .entry))) (now (out .entry)) (now (out .exit)) (r .0) (r .1) (meaning (now (fabric .exit))) (ports (now (bank .exit))) ⌝ }
+pub(crate) fn respond<B: Bank, L: Lanes>(fabric: &mut Fabric, bank: &mut B, lanes: &mut L, line: &[u8], out: &mut [u8; ANSWER]) -> (usize, Option<Declined>)
+    ensures { λ r. ⌜ Responds (obeyed (meaning (now (fabric .entry))) (ports (now (bank .entry))) (queues (now (lanes .entry))) (now (line .entry))) (now (out .entry)) (now (out .exit)) (r .0) (r .1) (meaning (now (fabric .exit))) (ports (now (bank .exit))) (queues (now (lanes .exit))) ⌝ }
 {
-    match obey(fabric, bank, line) {
+    match obey(fabric, bank, lanes, line) {
         Ok(said) => (write_said(out, &said), None),
         Err(declined) => (write_no(out, declined.refusal.reason, declined.place), Some(declined)),
     }
 }
 
 // Answers line `number` of a sheet, and notes the line's number beside a refusal.
-pub fn answer_line<B: Bank>(fabric: &mut Fabric, bank: &mut B, number: usize, line: &[u8], out: &mut [u8; ANSWER]) -> Reply
-    ensures { λ r. ⌜ Answers number (obeyed (meaning (now (fabric .entry))) (ports (now (bank .entry))) (now (line .entry))) (now (out .entry)) (now (out .exit)) r (meaning (now (fabric .exit))) (ports (now (bank .exit))) ⌝ }
+pub fn answer_line<B: Bank, L: Lanes>(fabric: &mut Fabric, bank: &mut B, lanes: &mut L, number: usize, line: &[u8], out: &mut [u8; ANSWER]) -> Reply
+    ensures { λ r. ⌜ Answers number (obeyed (meaning (now (fabric .entry))) (ports (now (bank .entry))) (queues (now (lanes .entry))) (now (line .entry))) (now (out .entry)) (now (out .exit)) r (meaning (now (fabric .exit))) (ports (now (bank .exit))) (queues (now (lanes .exit))) ⌝ }
 {
-    let (bytes, declined) = respond(fabric, bank, line, out);
+    let (bytes, declined) = respond(fabric, bank, lanes, line, out);
     Reply { bytes, refused: noted(number, declined) }
 }
 

@@ -18,6 +18,11 @@ use bank::bank::Bank;
 use bank::record::RecordBank;
 use bank::records::RecordBankBank;
 use fabric::fabric::Fabric;
+use lanes::lanes::Lanes;
+use lanes::ring_lanes::RingLanes;
+use lanes::ring_lanes_calls::RingLanesLanes;
+use manager::call::Call;
+use manager::performing::perform;
 use std::alloc::AllocError;
 use std::alloc::Global;
 use table::refusal::Reason;
@@ -37,23 +42,24 @@ fn add_front(answers: &mut Vec<u8>, out: &[u8], bytes: usize) -> Result<(), Allo
 }
 
 // Adds the answer to one more line.
-fn add_answer<B: Bank>(fabric: &mut Fabric, bank: &mut B, line: &[u8], answers: &mut Vec<u8>) -> Result<(), AllocError>
-    ensures text { λ r. ⌜ made r (λ _. vec-items (now (answers .exit)) ≡ vec-items (now (answers .entry)) ++ answerText (obeyed (meaning (now (fabric .entry))) (ports (now (bank .entry))) (now (line .entry)) .answer)) ⌝ }
-    ensures state { λ _. ⌜ meaning (now (fabric .exit)) ≡ obeyed (meaning (now (fabric .entry))) (ports (now (bank .entry))) (now (line .entry)) .state ⌝ }
-    ensures ports { λ _. ⌜ ports (now (bank .exit)) ≡ obeyed (meaning (now (fabric .entry))) (ports (now (bank .entry))) (now (line .entry)) .ports ⌝ }
+fn add_answer<B: Bank, L: Lanes>(fabric: &mut Fabric, bank: &mut B, lanes: &mut L, line: &[u8], answers: &mut Vec<u8>) -> Result<(), AllocError>
+    ensures text { λ r. ⌜ made r (λ _. vec-items (now (answers .exit)) ≡ vec-items (now (answers .entry)) ++ answerText (obeyed (meaning (now (fabric .entry))) (ports (now (bank .entry))) (queues (now (lanes .entry))) (now (line .entry)) .answer)) ⌝ }
+    ensures state { λ _. ⌜ meaning (now (fabric .exit)) ≡ obeyed (meaning (now (fabric .entry))) (ports (now (bank .entry))) (queues (now (lanes .entry))) (now (line .entry)) .state ⌝ }
+    ensures ports { λ _. ⌜ ports (now (bank .exit)) ≡ obeyed (meaning (now (fabric .entry))) (ports (now (bank .entry))) (queues (now (lanes .entry))) (now (line .entry)) .ports ⌝ }
+    ensures queues { λ _. ⌜ queues (now (lanes .exit)) ≡ obeyed (meaning (now (fabric .entry))) (ports (now (bank .entry))) (queues (now (lanes .entry))) (now (line .entry)) .queues ⌝ }
 {
     let mut out = [0u8; ANSWER];
-    let (bytes, _) = respond(fabric, bank, line, &mut out);
+    let (bytes, _) = respond(fabric, bank, lanes, line, &mut out);
     add_front(answers, &out, bytes)
 }
 
 // The answers to the lines of a sheet, on a fabric and a bank as they are.
-pub fn answer_lines<B: Bank>(heap: Global, fabric: &mut Fabric, bank: &mut B, input: &[u8]) -> Result<Vec<u8>, AllocError>
-    ensures { λ r. ⌜ made r (λ v. vec-items v ≡ answersFrom (meaning (now (fabric .entry))) (ports (now (bank .entry))) (linesOf (now (input .entry)))) ⌝ }
+pub fn answer_lines<B: Bank, L: Lanes>(heap: Global, fabric: &mut Fabric, bank: &mut B, lanes: &mut L, input: &[u8]) -> Result<Vec<u8>, AllocError>
+    ensures { λ r. ⌜ made r (λ v. vec-items v ≡ answersFrom (meaning (now (fabric .entry))) (ports (now (bank .entry))) (queues (now (lanes .entry))) (linesOf (now (input .entry)))) ⌝ }
 {
     let mut answers = Vec::new(heap);
     for line in lines(input) {
-        add_answer(fabric, bank, line, &mut answers)?;
+        add_answer(fabric, bank, lanes, line, &mut answers)?;
     }
     Ok(answers)
 }
@@ -70,7 +76,8 @@ pub fn answer_sheet(heap: Global, input: &[u8]) -> Result<Vec<u8>, AllocError>
         return Ok(answers);
     }
     let mut bank = RecordBank::new(PORTS);
+    let mut lanes = RingLanes::new();
     let mut fabric = Fabric::new();
-    let _ = fabric.start(&mut bank);
-    answer_lines(heap, &mut fabric, &mut bank, input)
+    let _ = perform(&mut fabric, &mut bank, &mut lanes, Call::start());
+    answer_lines(heap, &mut fabric, &mut bank, &mut lanes, input)
 }

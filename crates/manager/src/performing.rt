@@ -57,17 +57,17 @@ fn dispatch<B: Bank, L: Lanes>(
     fabric: &mut Fabric,
     bank: &mut B,
     lanes: &mut L,
-    call: &Call,
+    call: Call,
 ) -> Result<Answer, Declined>
-    ensures meets { λ r. ⌜ leaving r (meaning (now (fabric .exit))) (ports (now (bank .exit))) (queues (now (lanes .exit))) ≡ performed (meaning (now (fabric .entry))) (ports (now (bank .entry))) (queues (now (lanes .entry))) (asked (now (call .entry))) ⌝ }
+    ensures meets { λ r. ⌜ leaving r (meaning (now (fabric .exit))) (ports (now (bank .exit))) (queues (now (lanes .exit))) ≡ performed (meaning (now (fabric .entry))) (ports (now (bank .entry))) (queues (now (lanes .entry))) (asked (call .entry)) ⌝ }
 {
     match call {
         Call::Start => plainly(fabric.start(bank), Answer::Started),
-        Call::Reserve { number, level, weight, path } => reserved(fabric.reserve(bank, *number, *level, *weight, path)),
-        Call::Release(number) => released(fabric.release(bank, *number)),
-        Call::Shut(port) => plainly(fabric.shut(bank, *port), Answer::Shut),
-        Call::Reopen(port) => plainly(fabric.reopen(bank, *port), Answer::Reopened),
-        Call::Pick(port) => picked(fabric.pick(bank, lanes, *port)),
+        Call::Reserve { number, level, weight, path } => reserved(fabric.reserve(bank, number, level, weight, path)),
+        Call::Release(number) => released(fabric.release(bank, number)),
+        Call::Shut(port) => plainly(fabric.shut(bank, port), Answer::Shut),
+        Call::Reopen(port) => plainly(fabric.reopen(bank, port), Answer::Reopened),
+        Call::Pick(port) => picked(fabric.pick(bank, lanes, port)),
     }
 }
 
@@ -77,11 +77,11 @@ pub fn perform<B: Bank, L: Lanes>(
     fabric: &mut Fabric,
     bank: &mut B,
     lanes: &mut L,
-    call: &Call,
+    call: Call,
 ) -> Result<Answer, Declined>
-    ensures meets { λ r. ⌜ leaving r (meaning (now (fabric .exit))) (ports (now (bank .exit))) (queues (now (lanes .exit))) ≡ performed (meaning (now (fabric .entry))) (ports (now (bank .entry))) (queues (now (lanes .entry))) (asked (now (call .entry))) ⌝ }
-    ensures carries { λ r. ⌜ Carries (meaning (now (fabric .entry))) (ports (now (bank .entry))) (queues (now (lanes .entry))) (asked (now (call .entry))) r (meaning (now (fabric .exit))) (ports (now (bank .exit))) (queues (now (lanes .exit))) ⌝ }
-    ensures begins { λ r. ⌜ Begins (ports (now (bank .entry))) (asked (now (call .entry))) r (meaning (now (fabric .exit))) (ports (now (bank .exit))) ⌝ }
+    ensures meets { λ r. ⌜ leaving r (meaning (now (fabric .exit))) (ports (now (bank .exit))) (queues (now (lanes .exit))) ≡ performed (meaning (now (fabric .entry))) (ports (now (bank .entry))) (queues (now (lanes .entry))) (asked (call .entry)) ⌝ }
+    ensures carries { λ r. ⌜ Carries (meaning (now (fabric .entry))) (ports (now (bank .entry))) (queues (now (lanes .entry))) (asked (call .entry)) r (meaning (now (fabric .exit))) (ports (now (bank .exit))) (queues (now (lanes .exit))) ⌝ }
+    ensures begins { λ r. ⌜ Begins (ports (now (bank .entry))) (asked (call .entry)) r (meaning (now (fabric .exit))) (ports (now (bank .exit))) ⌝ }
 {
     dispatch(fabric, bank, lanes, call)
 }

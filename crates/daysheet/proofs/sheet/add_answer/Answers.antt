@@ -12,11 +12,11 @@ use Rattle.daysheet.proofs.sheet.add_answer.Needs as need
 pub add-front-requires : need.add-front-requires
 add-front-requires g c κs =
     front-within (replicate answerBytes 0) (c .respond-bytes .last .out) (c .respond-bytes .result .0)
-        (answerText (obeyed (meaning (c .args .fabric .now)) (g .B·Bank .ports (c .args .bank .now)) (c .args .line .now) .answer)) (c .respond-bytes .ensures .text)
+        (answerText (obeyed (meaning (c .args .fabric .now)) (g .B·Bank .ports (c .args .bank .now)) (g .L·Lanes .queues (c .args .lanes .now)) (c .args .line .now) .answer)) (c .respond-bytes .ensures .text)
 
 pub returns : need.returns
 returns g c =
-    let o = obeyed (meaning (c .args .fabric .now)) (g .B·Bank .ports (c .args .bank .now)) (c .args .line .now) in
+    let o = obeyed (meaning (c .args .fabric .now)) (g .B·Bank .ports (c .args .bank .now)) (g .L·Lanes .queues (c .args .lanes .now)) (c .args .line .now) in
     record {
       text = made-as (c .add-front .result)
           (λ _. vec-items (c .add-front .last .answers) ≡ vec-items (c .args .answers .now) ++ take (c .respond-bytes .result .0) (c .respond-bytes .last .out))
@@ -25,4 +25,5 @@ returns g c =
           (c .add-front .ensures);
       state = c .respond-bytes .ensures .state;
       ports = c .respond-bytes .ensures .ports;
+      queues = c .respond-bytes .ensures .queues;
     }

@@ -11,7 +11,7 @@ returns g c =
     let ps′ = g .B·Bank .ports (c .dispatch .last .bank) in
     let qs = g .L·Lanes .queues (c .args .lanes .now) in
     let qs′ = g .L·Lanes .queues (c .dispatch .last .lanes) in
-    let ask = asked (c .args .call .now) in
+    let ask = asked (c .args .call) in
     let fit = g .L·Lanes·met .fits (c .args .lanes .now) in
     record {
       meets = c .dispatch .ensures .meets;
