@@ -55,11 +55,12 @@ fn act<B: Bank, L: Lanes>(fabric: &mut Fabric, bank: &mut B, lanes: &mut L, comm
     match command {
         Command::Reserve { number, level, weight, path } => {
             let path = path.as_slice();
-            said(perform(fabric, bank, lanes, Call::Reserve { number: *number, level: *level, weight: *weight, path }))
+            let call = Call::Reserve { number: *number, level: *level, weight: *weight, path };
+            said(perform(fabric, bank, lanes, &call))
         }
-        Command::Release(number) => said(perform(fabric, bank, lanes, Call::release(*number))),
-        Command::Shut(port) => said(perform(fabric, bank, lanes, Call::shut(*port))),
-        Command::Reopen(port) => said(perform(fabric, bank, lanes, Call::reopen(*port))),
+        Command::Release(number) => said(perform(fabric, bank, lanes, &Call::release(*number))),
+        Command::Shut(port) => said(perform(fabric, bank, lanes, &Call::shut(*port))),
+        Command::Reopen(port) => said(perform(fabric, bank, lanes, &Call::reopen(*port))),
         Command::Table(port) => tell_table(bank, *port),
     }
 }

@@ -78,6 +78,6 @@ pub fn answer_sheet(heap: Global, input: &[u8]) -> Result<Vec<u8>, AllocError>
     let mut bank = RecordBank::new(PORTS);
     let mut lanes = RingLanes::new();
     let mut fabric = Fabric::new();
-    let _ = perform(&mut fabric, &mut bank, &mut lanes, Call::start());
+    let _ = perform(&mut fabric, &mut bank, &mut lanes, &Call::start());
     answer_lines(heap, &mut fabric, &mut bank, &mut lanes, input)
 }

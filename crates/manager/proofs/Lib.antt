@@ -8,4 +8,5 @@ pub mod Waits
 pub mod Declines
 pub mod Admission
 pub mod Theorem
-pub mod Performs
+pub mod Dispatched
+pub mod Examples

@@ -9,10 +9,10 @@ use lib.ListN.{length, getD, set, replicate}
 use Rattle.std.specs.declared.result.Result.{Result}
 use Rattle.std.specs.declared.result.Result.the-variants.{Ok, Err}
 use Rattle.std.proofs.shelf.Lists.{getD-set-same, same-lists, length-map, getD-map, getD-replicate, length-replicate, getD-default}
-use Rattle.table.specs.Slots.{bits, slots, laneCount, emptySlot}
+use Rattle.table.specs.Slots.{bits, slots, emptySlot}
 use Rattle.bank.specs.declared.port.Port.{Port}
 use Rattle.bank.specs.Ports.{portAt, noPort, newPort}
-use Rattle.lanes.specs.Queues.{queue, Packet, LanesFit}
+use Rattle.lanes.specs.Queues.{queue, LanesFit}
 use Rattle.book.specs.Books.{contents}
 use Rattle.book.specs.Laws.{Placed}
 use Rattle.fabric.specs.declared.declined.Declined.{Declined}
@@ -25,7 +25,7 @@ use Rattle.manager.specs.declared.call.Answer.the-variants.{Started}
 use Rattle.manager.specs.Calls.{Ask, start, reserve, release, shut, reopen, pick, Performed, leaving, onLanes, performed}
 use Rattle.manager.specs.Histories.{Event, called, joined, History, live, isOpen, waits}
 use Rattle.manager.specs.Worlds.{Beginning, Sound, World, world, begun, Genuine, given, takenBack, result}
-use Rattle.manager.specs.Guarantee.{Guarantee, Stands, LanesAre, Carries, Begins}
+use Rattle.manager.specs.Guarantee.{Guarantee, Stands, LanesAre, Carries, Begins, Joins}
 use Rattle.manager.proofs.Keeps.{placed}
 use Rattle.manager.proofs.Ways.{Yes, Way, ways, done}
 use Rattle.manager.proofs.Kept.{Kept, kept, pick-there, never-both}
@@ -145,16 +145,5 @@ module _ (s s′ : State) (ps ps′ : List Port) (qs qs′ : List (List ℕ)) (c
         ports-are = ports-fresh;
       }
 
--- a packet that joins a lane of a port goes on with the history
-pub arrives : (b : Beginning) (h : History) (s : State) (ps : List Port) (p v n : ℕ) → Stands b h s ps → p < b .count → v < laneCount → Packet n → Stands b (joined p v n ∷ h) s ps
-arrives b h s ps p v n st a c d = record { sound = st .sound; genuine = (a, c, d, st .genuine); state-is = st .state-is; ports-are = st .ports-are }
-
--- only a pick takes from the lanes
-pub untouched : (s : State) (ps : List Port) (qs : List (List ℕ)) (c : Ask) → ((p : ℕ) → c ≡ pick p → ⊥) → performed s ps qs c .queues ≡ qs
-unfolding performed
-untouched s ps qs start none = refl
-untouched s ps qs (reserve a l w path) none = refl
-untouched s ps qs (release a) none = refl
-untouched s ps qs (shut p) none = refl
-untouched s ps qs (reopen p) none = refl
-untouched s ps qs (pick p) none = absurd (none p refl)
+pub joins : Joins
+joins b h s ps p v bytes st a c d = record { sound = st .sound; genuine = (a, c, d, st .genuine); state-is = st .state-is; ports-are = st .ports-are }

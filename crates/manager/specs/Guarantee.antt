@@ -8,11 +8,11 @@ use lib.ListN.{length, getD, take}
 use Rattle.std.specs.declared.result.Result.{Result}
 use Rattle.std.specs.declared.result.Result.the-variants.{Ok, Err}
 use Rattle.table.specs.declared.refusal.Reason.the-variants.{NoRoom}
-use Rattle.table.specs.Slots.{bits, slots, mostWeight}
+use Rattle.table.specs.Slots.{bits, slots, mostWeight, laneCount}
 use Rattle.table.specs.Services.{distances}
 use Rattle.bank.specs.declared.port.Port.{Port}
 use Rattle.bank.specs.Ports.{portAt}
-use Rattle.lanes.specs.Queues.{queue, mostBytes}
+use Rattle.lanes.specs.Queues.{queue, Packet, mostBytes}
 use Rattle.book.specs.Books.{contents}
 use Rattle.book.specs.Sessions.{spacingOf}
 use Rattle.book.specs.Laws.{Placed, noSession}
@@ -24,7 +24,7 @@ use Rattle.fabric.specs.Picking.{cost}
 use Rattle.manager.specs.declared.call.Answer.{Answer}
 use Rattle.manager.specs.declared.call.Answer.the-variants.{Started}
 use Rattle.manager.specs.Calls.{Ask, start, reserve, pick}
-use Rattle.manager.specs.Histories.{called, History, spacingFor, live, isOpen, Unchanged, waits, Passed-by, All-send, spent}
+use Rattle.manager.specs.Histories.{called, joined, History, spacingFor, live, isOpen, Unchanged, waits, Passed-by, All-send, spent}
 use Rattle.manager.specs.Questions.{questions, Verdict, IsLive, Room}
 use Rattle.manager.specs.Worlds.{Beginning, Sound, world, Genuine}
 
@@ -93,3 +93,7 @@ Carries s ps qs c r s′ ps′ qs′ = (b : Beginning) (h : History) → Stands 
 -- An accepted start on a bank of so many ports begins a history, whatever was before, with any packets waiting.
 abbrev pub Begins : List Port → Ask → Result Answer Declined → State → List Port → Type 0
 Begins ps c r s′ ps′ = c ≡ start → r ≡ Ok Started → (b : Beginning) → Sound b → b .count ≡ length ps → Stands b [] s′ ps′ × Guarantee b [] ps′
+
+-- A packet that joins a lane of a port goes on with the history: fabric and bank stay as they are.
+abbrev pub Joins : Type 0
+Joins = (b : Beginning) (h : History) (s : State) (ps : List Port) (p v bytes : ℕ) → Stands b h s ps → p < b .count → v < laneCount → Packet bytes → Stands b (joined p v bytes ∷ h) s ps

@@ -3,3 +3,5 @@ pub mod Histories
 pub mod Questions
 pub mod Worlds
 pub mod Guarantee
+pub mod Witness
+pub mod Bookings

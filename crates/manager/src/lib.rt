@@ -2,3 +2,4 @@
 pub mod asking;
 pub mod call;
 pub mod performing;
+pub mod shown;

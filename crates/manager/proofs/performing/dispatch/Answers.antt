@@ -5,74 +5,103 @@ use Rattle.fabric.specs.Reserving.{reserveCall}
 use Rattle.fabric.specs.Releasing.{releaseCall}
 use Rattle.fabric.specs.Shutting.{shutCall, reopenCall}
 use Rattle.fabric.specs.Picking.{pickCall}
-use Rattle.manager.specs.declared.call.Call.{Call}
-use Rattle.manager.specs.declared.call.Answer.the-variants.{Started, Released as ReleasedNow, Shut as ShutNow, Reopened}
+use Rattle.manager.specs.declared.call.Answer.the-variants.{Started, Released, Shut, Reopened}
 use Rattle.manager.specs.Calls.{asked, reservedNow, performed}
-use Rattle.manager.proofs.Performs.{on-bank, on-lanes}
+use Rattle.manager.proofs.Dispatched.{bank-took, bank-declined, lanes-took, lanes-declined}
 use Rattle.manager.proofs.performing.dispatch.Needs as need
 
-pub returns-in-Start : need.returns-in-Start
+pub returns-in-Continue-start : need.returns-in-Continue-start
 unfolding performed
-returns-in-Start g c =
+returns-in-Continue-start g c =
     let s = meaning (c .args .fabric .now) in
     let ps = g .B·Bank .ports (c .args .bank .now) in
     let qs = g .L·Lanes .queues (c .args .lanes .now) in
-    record {
-      meets = on-bank (λ _. Started) (c .start .result) (c .plainly .result) (meaning (c .start .last .self)) (g .B·Bank .ports (c .start .last .bank)) qs (startCall s ps) (c .start .ensures .meets) (c .plainly .ensures)
-          ∙ sym (ap (λ (x : Call). performed s ps qs (asked x)) (c .in-Start .is));
-    }
+    record { meets = bank-took (λ _. Started) (meaning (c .start .last .self)) (g .B·Bank .ports (c .start .last .bank)) qs (startCall s ps) tt (c .in-Continue-start .ensures tt .meets) ∙ ap (λ call. performed s ps qs (asked call)) (sym (c .in-Start .is)) }
 
-pub returns-in-Reserve : need.returns-in-Reserve
+pub returns-in-Break-start : need.returns-in-Break-start
 unfolding performed
-returns-in-Reserve g c =
+returns-in-Break-start g c =
     let s = meaning (c .args .fabric .now) in
     let ps = g .B·Bank .ports (c .args .bank .now) in
     let qs = g .L·Lanes .queues (c .args .lanes .now) in
-    record {
-      meets = on-bank reservedNow (c .reserve .result) (c .reserved .result) (meaning (c .reserve .last .self)) (g .B·Bank .ports (c .reserve .last .bank)) qs (reserveCall s ps (c .in-Reserve .number) (c .in-Reserve .level) (c .in-Reserve .weight) (c .in-Reserve .path .now)) (c .reserve .ensures .meets) (c .reserved .ensures)
-          ∙ sym (ap (λ (x : Call). performed s ps qs (asked x)) (c .in-Reserve .is));
-    }
+    record { meets = bank-declined (λ _. Started) (meaning (c .start .last .self)) (g .B·Bank .ports (c .start .last .bank)) qs (startCall s ps) (c .in-Break-start .field-0 .0) (c .from-residual .result) (c .from-residual .ensures .1) (c .in-Break-start .ensures tt .meets) ∙ ap (λ call. performed s ps qs (asked call)) (sym (c .in-Start .is)) }
 
-pub returns-in-Release : need.returns-in-Release
+pub returns-in-Continue-spacing : need.returns-in-Continue-spacing
 unfolding performed
-returns-in-Release g c =
+returns-in-Continue-spacing g c =
     let s = meaning (c .args .fabric .now) in
     let ps = g .B·Bank .ports (c .args .bank .now) in
     let qs = g .L·Lanes .queues (c .args .lanes .now) in
-    record {
-      meets = on-bank ReleasedNow (c .release .result) (c .released .result) (meaning (c .release .last .self)) (g .B·Bank .ports (c .release .last .bank)) qs (releaseCall s ps (c .in-Release .number)) (c .release .ensures .meets) (c .released .ensures)
-          ∙ sym (ap (λ (x : Call). performed s ps qs (asked x)) (c .in-Release .is));
-    }
+    record { meets = bank-took reservedNow (meaning (c .reserve .last .self)) (g .B·Bank .ports (c .reserve .last .bank)) qs (reserveCall s ps (c .in-Reserve .number) (c .in-Reserve .level) (c .in-Reserve .weight) (c .in-Reserve .path .now)) (c .in-Continue-spacing .spacing, c .in-Continue-spacing .grant, c .in-Continue-spacing .slots) (c .in-Continue-spacing .ensures tt .meets) ∙ ap (λ call. performed s ps qs (asked call)) (sym (c .in-Reserve .is)) }
 
-pub returns-in-Shut : need.returns-in-Shut
+pub returns-in-Break-spacing : need.returns-in-Break-spacing
 unfolding performed
-returns-in-Shut g c =
+returns-in-Break-spacing g c =
     let s = meaning (c .args .fabric .now) in
     let ps = g .B·Bank .ports (c .args .bank .now) in
     let qs = g .L·Lanes .queues (c .args .lanes .now) in
-    record {
-      meets = on-bank (λ _. ShutNow) (c .shut .result) (c .plainly-in-Shut .result) (meaning (c .shut .last .self)) (g .B·Bank .ports (c .shut .last .bank)) qs (shutCall s ps (c .in-Shut .port)) (c .shut .ensures .meets) (c .plainly-in-Shut .ensures)
-          ∙ sym (ap (λ (x : Call). performed s ps qs (asked x)) (c .in-Shut .is));
-    }
+    record { meets = bank-declined reservedNow (meaning (c .reserve .last .self)) (g .B·Bank .ports (c .reserve .last .bank)) qs (reserveCall s ps (c .in-Reserve .number) (c .in-Reserve .level) (c .in-Reserve .weight) (c .in-Reserve .path .now)) (c .in-Break-spacing .field-0 .0) (c .from-residual-in-Break-spacing .result) (c .from-residual-in-Break-spacing .ensures .1) (c .in-Break-spacing .ensures tt .meets) ∙ ap (λ call. performed s ps qs (asked call)) (sym (c .in-Reserve .is)) }
 
-pub returns-in-Reopen : need.returns-in-Reopen
+pub returns-in-Continue-slots : need.returns-in-Continue-slots
 unfolding performed
-returns-in-Reopen g c =
+returns-in-Continue-slots g c =
     let s = meaning (c .args .fabric .now) in
     let ps = g .B·Bank .ports (c .args .bank .now) in
     let qs = g .L·Lanes .queues (c .args .lanes .now) in
-    record {
-      meets = on-bank (λ _. Reopened) (c .reopen .result) (c .plainly-in-Reopen .result) (meaning (c .reopen .last .self)) (g .B·Bank .ports (c .reopen .last .bank)) qs (reopenCall s ps (c .in-Reopen .port)) (c .reopen .ensures .meets) (c .plainly-in-Reopen .ensures)
-          ∙ sym (ap (λ (x : Call). performed s ps qs (asked x)) (c .in-Reopen .is));
-    }
+    record { meets = bank-took Released (meaning (c .release .last .self)) (g .B·Bank .ports (c .release .last .bank)) qs (releaseCall s ps (c .in-Release .number)) (c .in-Continue-slots .slots) (c .in-Continue-slots .ensures tt .meets) ∙ ap (λ call. performed s ps qs (asked call)) (sym (c .in-Release .is)) }
 
-pub returns-in-Pick : need.returns-in-Pick
+pub returns-in-Break-slots : need.returns-in-Break-slots
 unfolding performed
-returns-in-Pick g c =
+returns-in-Break-slots g c =
     let s = meaning (c .args .fabric .now) in
     let ps = g .B·Bank .ports (c .args .bank .now) in
     let qs = g .L·Lanes .queues (c .args .lanes .now) in
-    record {
-      meets = on-lanes (c .pick .result) (c .picked .result) (meaning (c .pick .last .self)) ps (g .L·Lanes .queues (c .pick .last .lanes)) (pickCall s ps qs (c .in-Pick .port)) (c .pick .ensures .meets) (c .picked .ensures)
-          ∙ sym (ap (λ (x : Call). performed s ps qs (asked x)) (c .in-Pick .is));
-    }
+    record { meets = bank-declined Released (meaning (c .release .last .self)) (g .B·Bank .ports (c .release .last .bank)) qs (releaseCall s ps (c .in-Release .number)) (c .in-Break-slots .field-0 .0) (c .from-residual-in-Break-slots .result) (c .from-residual-in-Break-slots .ensures .1) (c .in-Break-slots .ensures tt .meets) ∙ ap (λ call. performed s ps qs (asked call)) (sym (c .in-Release .is)) }
+
+pub returns-in-Continue-shut : need.returns-in-Continue-shut
+unfolding performed
+returns-in-Continue-shut g c =
+    let s = meaning (c .args .fabric .now) in
+    let ps = g .B·Bank .ports (c .args .bank .now) in
+    let qs = g .L·Lanes .queues (c .args .lanes .now) in
+    record { meets = bank-took (λ _. Shut) (meaning (c .shut .last .self)) (g .B·Bank .ports (c .shut .last .bank)) qs (shutCall s ps (c .in-Shut .port)) tt (c .in-Continue-shut .ensures tt .meets) ∙ ap (λ call. performed s ps qs (asked call)) (sym (c .in-Shut .is)) }
+
+pub returns-in-Break-shut : need.returns-in-Break-shut
+unfolding performed
+returns-in-Break-shut g c =
+    let s = meaning (c .args .fabric .now) in
+    let ps = g .B·Bank .ports (c .args .bank .now) in
+    let qs = g .L·Lanes .queues (c .args .lanes .now) in
+    record { meets = bank-declined (λ _. Shut) (meaning (c .shut .last .self)) (g .B·Bank .ports (c .shut .last .bank)) qs (shutCall s ps (c .in-Shut .port)) (c .in-Break-shut .field-0 .0) (c .from-residual-in-Break-shut .result) (c .from-residual-in-Break-shut .ensures .1) (c .in-Break-shut .ensures tt .meets) ∙ ap (λ call. performed s ps qs (asked call)) (sym (c .in-Shut .is)) }
+
+pub returns-in-Continue-reopen : need.returns-in-Continue-reopen
+unfolding performed
+returns-in-Continue-reopen g c =
+    let s = meaning (c .args .fabric .now) in
+    let ps = g .B·Bank .ports (c .args .bank .now) in
+    let qs = g .L·Lanes .queues (c .args .lanes .now) in
+    record { meets = bank-took (λ _. Reopened) (meaning (c .reopen .last .self)) (g .B·Bank .ports (c .reopen .last .bank)) qs (reopenCall s ps (c .in-Reopen .port)) tt (c .in-Continue-reopen .ensures tt .meets) ∙ ap (λ call. performed s ps qs (asked call)) (sym (c .in-Reopen .is)) }
+
+pub returns-in-Break-reopen : need.returns-in-Break-reopen
+unfolding performed
+returns-in-Break-reopen g c =
+    let s = meaning (c .args .fabric .now) in
+    let ps = g .B·Bank .ports (c .args .bank .now) in
+    let qs = g .L·Lanes .queues (c .args .lanes .now) in
+    record { meets = bank-declined (λ _. Reopened) (meaning (c .reopen .last .self)) (g .B·Bank .ports (c .reopen .last .bank)) qs (reopenCall s ps (c .in-Reopen .port)) (c .in-Break-reopen .field-0 .0) (c .from-residual-in-Break-reopen .result) (c .from-residual-in-Break-reopen .ensures .1) (c .in-Break-reopen .ensures tt .meets) ∙ ap (λ call. performed s ps qs (asked call)) (sym (c .in-Reopen .is)) }
+
+pub returns-in-Continue-picked : need.returns-in-Continue-picked
+unfolding performed
+returns-in-Continue-picked g c =
+    let s = meaning (c .args .fabric .now) in
+    let ps = g .B·Bank .ports (c .args .bank .now) in
+    let qs = g .L·Lanes .queues (c .args .lanes .now) in
+    record { meets = lanes-took (meaning (c .pick .last .self)) ps (g .L·Lanes .queues (c .pick .last .lanes)) (pickCall s ps qs (c .in-Pick .port)) (c .in-Continue-picked .picked) (c .in-Continue-picked .ensures tt .meets) ∙ ap (λ call. performed s ps qs (asked call)) (sym (c .in-Pick .is)) }
+
+pub returns-in-Break-picked : need.returns-in-Break-picked
+unfolding performed
+returns-in-Break-picked g c =
+    let s = meaning (c .args .fabric .now) in
+    let ps = g .B·Bank .ports (c .args .bank .now) in
+    let qs = g .L·Lanes .queues (c .args .lanes .now) in
+    record { meets = lanes-declined (meaning (c .pick .last .self)) ps (g .L·Lanes .queues (c .pick .last .lanes)) (pickCall s ps qs (c .in-Pick .port)) (c .in-Break-picked .field-0 .0) (c .from-residual-in-Break-picked .result) (c .from-residual-in-Break-picked .ensures .1) (c .in-Break-picked .ensures tt .meets) ∙ ap (λ call. performed s ps qs (asked call)) (sym (c .in-Pick .is)) }
