@@ -4,15 +4,6 @@ ghost use Rattle.fabric.specs.States.{meaning};
 ghost use Rattle.text.specs.Told.{askedBy};
 ghost use Rattle.text.specs.Answers.{Wrote};
 ghost use Rattle.daysheet.specs.Replies.{tableAnswer, saidAs, acting, acted, obeyed, saidText, lineRefusal, Responds, Answers};
-use text::answer::ANSWER;
-use text::answer::IMAGE;
-use text::answer::write_no;
-use text::answer::write_ok;
-use text::answer::write_ok_image;
-use text::answer::write_ok_one;
-use text::answer::write_ok_three;
-use text::command::Command;
-use text::parse::parse;
 use crate::reply::LineRefusal;
 use crate::reply::Reply;
 use crate::reply::Said;
@@ -24,6 +15,15 @@ use lanes::lanes::Lanes;
 use manager::call::Answer;
 use manager::call::Call;
 use manager::performing::perform;
+use text::answer::ANSWER;
+use text::answer::IMAGE;
+use text::answer::write_no;
+use text::answer::write_ok;
+use text::answer::write_ok_image;
+use text::answer::write_ok_one;
+use text::answer::write_ok_three;
+use text::command::Command;
+use text::parse::parse;
 
 // The image of a port's table.
 fn tell_table<B: Bank>(bank: &B, port: usize) -> Result<Said, Declined>
@@ -49,13 +49,28 @@ fn said(answer: Result<Answer, Declined>) -> Result<Said, Declined>
 }
 
 // Carries out a command.
-fn act<B: Bank, L: Lanes>(fabric: &mut Fabric, bank: &mut B, lanes: &mut L, command: &Command) -> Result<Said, Declined>
+fn act<B: Bank, L: Lanes>(
+    fabric: &mut Fabric,
+    bank: &mut B,
+    lanes: &mut L,
+    command: &Command,
+) -> Result<Said, Declined>
     ensures { λ r. ⌜ acting r (meaning (now (fabric .exit))) (ports (now (bank .exit))) (queues (now (lanes .exit))) ≡ acted (meaning (now (fabric .entry))) (ports (now (bank .entry))) (queues (now (lanes .entry))) (askedBy (now (command .entry))) ⌝ }
 {
     match command {
-        Command::Reserve { number, level, weight, path } => {
+        Command::Reserve {
+            number,
+            level,
+            weight,
+            path,
+        } => {
             let path = path.as_slice();
-            let call = Call::Reserve { number: *number, level: *level, weight: *weight, path };
+            let call = Call::Reserve {
+                number: *number,
+                level: *level,
+                weight: *weight,
+                path,
+            };
             said(perform(fabric, bank, lanes, &call))
         }
         Command::Release(number) => said(perform(fabric, bank, lanes, &Call::release(*number))),
@@ -66,12 +81,20 @@ fn act<B: Bank, L: Lanes>(fabric: &mut Fabric, bank: &mut B, lanes: &mut L, comm
 }
 
 // Carries out a line's command, or refuses the line.
-fn obey<B: Bank, L: Lanes>(fabric: &mut Fabric, bank: &mut B, lanes: &mut L, line: &[u8]) -> Result<Said, Declined>
+fn obey<B: Bank, L: Lanes>(
+    fabric: &mut Fabric,
+    bank: &mut B,
+    lanes: &mut L,
+    line: &[u8],
+) -> Result<Said, Declined>
     ensures { λ r. ⌜ acting r (meaning (now (fabric .exit))) (ports (now (bank .exit))) (queues (now (lanes .exit))) ≡ obeyed (meaning (now (fabric .entry))) (ports (now (bank .entry))) (queues (now (lanes .entry))) (now (line .entry)) ⌝ }
 {
     match parse(line) {
         Ok(command) => act(fabric, bank, lanes, &command),
-        Err(refusal) => Err(Declined { refusal, place: refusal.place }),
+        Err(refusal) => Err(Declined {
+            refusal,
+            place: refusal.place,
+        }),
     }
 }
 
@@ -82,27 +105,51 @@ fn write_said(out: &mut [u8; ANSWER], said: &Said) -> usize
     match said {
         Said::Nothing => write_ok(out),
         Said::Released(slots) => write_ok_one(out, *slots),
-        Said::Reserved(spacing, grant, slots) => write_ok_three(out, *spacing, *grant as usize, *slots),
+        Said::Reserved(spacing, grant, slots) => write_ok_three(
+            out,
+            *spacing,
+            *grant as usize,
+            *slots,
+        ),
         Said::Image(image) => write_ok_image(out, image),
     }
 }
 
 // Answers a line: its answer stands at the front of the buffer, whose rest stays as it was. Answers how many bytes it has, or the refusal with them.
-pub(crate) fn respond<B: Bank, L: Lanes>(fabric: &mut Fabric, bank: &mut B, lanes: &mut L, line: &[u8], out: &mut [u8; ANSWER]) -> (usize, Option<Declined>)
+pub(crate) fn respond<B: Bank, L: Lanes>(
+    fabric: &mut Fabric,
+    bank: &mut B,
+    lanes: &mut L,
+    line: &[u8],
+    out: &mut [u8; ANSWER],
+) -> (usize, Option<Declined>)
     ensures { λ r. ⌜ Responds (obeyed (meaning (now (fabric .entry))) (ports (now (bank .entry))) (queues (now (lanes .entry))) (now (line .entry))) (now (out .entry)) (now (out .exit)) (r .0) (r .1) (meaning (now (fabric .exit))) (ports (now (bank .exit))) (queues (now (lanes .exit))) ⌝ }
 {
     match obey(fabric, bank, lanes, line) {
         Ok(said) => (write_said(out, &said), None),
-        Err(declined) => (write_no(out, declined.refusal.reason, declined.place), Some(declined)),
+        Err(declined) => (
+            write_no(out, declined.refusal.reason, declined.place),
+            Some(declined),
+        ),
     }
 }
 
 // Answers line `number` of a sheet, and notes the line's number beside a refusal.
-pub fn answer_line<B: Bank, L: Lanes>(fabric: &mut Fabric, bank: &mut B, lanes: &mut L, number: usize, line: &[u8], out: &mut [u8; ANSWER]) -> Reply
+pub fn answer_line<B: Bank, L: Lanes>(
+    fabric: &mut Fabric,
+    bank: &mut B,
+    lanes: &mut L,
+    number: usize,
+    line: &[u8],
+    out: &mut [u8; ANSWER],
+) -> Reply
     ensures { λ r. ⌜ Answers number (obeyed (meaning (now (fabric .entry))) (ports (now (bank .entry))) (queues (now (lanes .entry))) (now (line .entry))) (now (out .entry)) (now (out .exit)) r (meaning (now (fabric .exit))) (ports (now (bank .exit))) (queues (now (lanes .exit))) ⌝ }
 {
     let (bytes, declined) = respond(fabric, bank, lanes, line, out);
-    Reply { bytes, refused: noted(number, declined) }
+    Reply {
+        bytes,
+        refused: noted(number, declined),
+    }
 }
 
 // A refusal with the line's number beside it.
@@ -110,7 +157,11 @@ fn noted(number: usize, declined: Option<Declined>) -> Option<LineRefusal>
     ensures { λ r. ⌜ r ≡ lineRefusal number declined ⌝ }
 {
     match declined {
-        Some(d) => Some(LineRefusal { refusal: d.refusal, place: d.place, line: number }),
+        Some(d) => Some(LineRefusal {
+            refusal: d.refusal,
+            place: d.place,
+            line: number,
+        }),
         None => None,
     }
 }

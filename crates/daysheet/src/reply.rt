@@ -1,5 +1,5 @@
-use text::answer::IMAGE;
 use table::refusal::Refusal;
+use text::answer::IMAGE;
 
 // What an accepted line answers.
 #[derive(Clone, Copy)]

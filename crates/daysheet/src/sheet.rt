@@ -9,11 +9,7 @@ ghost use lib.ListN.{length, take};
 ghost use Rattle.text.specs.Lines.{linesOf};
 ghost use Rattle.daysheet.specs.Replies.{obeyed, answerText};
 ghost use Rattle.daysheet.specs.Sheets.{answersFrom, sheetText};
-use text::answer::ANSWER;
-use text::answer::write_no;
 use crate::answering::respond;
-use text::lines::lines;
-use text::lines::LinesIterator;
 use bank::bank::Bank;
 use bank::record::RecordBank;
 use bank::records::RecordBankBank;
@@ -26,6 +22,10 @@ use manager::performing::perform;
 use std::alloc::AllocError;
 use std::alloc::Global;
 use table::refusal::Reason;
+use text::answer::ANSWER;
+use text::answer::write_no;
+use text::lines::LinesIterator;
+use text::lines::lines;
 
 // A sheet has at most so many bytes.
 pub const MOST_BYTES: usize = 65536;
@@ -42,7 +42,13 @@ fn add_front(answers: &mut Vec<u8>, out: &[u8], bytes: usize) -> Result<(), Allo
 }
 
 // Adds the answer to one more line.
-fn add_answer<B: Bank, L: Lanes>(fabric: &mut Fabric, bank: &mut B, lanes: &mut L, line: &[u8], answers: &mut Vec<u8>) -> Result<(), AllocError>
+fn add_answer<B: Bank, L: Lanes>(
+    fabric: &mut Fabric,
+    bank: &mut B,
+    lanes: &mut L,
+    line: &[u8],
+    answers: &mut Vec<u8>,
+) -> Result<(), AllocError>
     ensures text { λ r. ⌜ made r (λ _. vec-items (now (answers .exit)) ≡ vec-items (now (answers .entry)) ++ answerText (obeyed (meaning (now (fabric .entry))) (ports (now (bank .entry))) (queues (now (lanes .entry))) (now (line .entry)) .answer)) ⌝ }
     ensures state { λ _. ⌜ meaning (now (fabric .exit)) ≡ obeyed (meaning (now (fabric .entry))) (ports (now (bank .entry))) (queues (now (lanes .entry))) (now (line .entry)) .state ⌝ }
     ensures ports { λ _. ⌜ ports (now (bank .exit)) ≡ obeyed (meaning (now (fabric .entry))) (ports (now (bank .entry))) (queues (now (lanes .entry))) (now (line .entry)) .ports ⌝ }
@@ -54,7 +60,13 @@ fn add_answer<B: Bank, L: Lanes>(fabric: &mut Fabric, bank: &mut B, lanes: &mut 
 }
 
 // The answers to the lines of a sheet, on a fabric and a bank as they are.
-pub fn answer_lines<B: Bank, L: Lanes>(heap: Global, fabric: &mut Fabric, bank: &mut B, lanes: &mut L, input: &[u8]) -> Result<Vec<u8>, AllocError>
+pub fn answer_lines<B: Bank, L: Lanes>(
+    heap: Global,
+    fabric: &mut Fabric,
+    bank: &mut B,
+    lanes: &mut L,
+    input: &[u8],
+) -> Result<Vec<u8>, AllocError>
     ensures { λ r. ⌜ made r (λ v. vec-items v ≡ answersFrom (meaning (now (fabric .entry))) (ports (now (bank .entry))) (queues (now (lanes .entry))) (linesOf (now (input .entry)))) ⌝ }
 {
     let mut answers = Vec::new(heap);

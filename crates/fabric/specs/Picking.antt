@@ -80,7 +80,7 @@ unfoldable pub turn : List Slot → Pointer → List (List ℕ) → Turn
 turn table at qs =
     cond (stays table at qs) (sent table at qs 0 (usable table at))
     (seek (ready table at qs) (λ d. sent table at qs d (slotOn table (at .slot + d) .weight))
-        (record { answer = Idle (length table); pointer = at; queues = qs }) 1 (length table))
+    (record { answer = Idle (length table); pointer = at; queues = qs }) 1 (length table))
 
 -- the pointer of port p
 abbrev pub pointerAt : List Pointer → ℕ → Pointer

@@ -28,7 +28,12 @@ impl Fabric {
     }
 
     // The book of a port changes, and just the slots that change are written. Answers how many.
-    pub(crate) fn change_at<B: Bank>(&mut self, bank: &mut B, port: usize, change: BookChange) -> usize
+    pub(crate) fn change_at<B: Bank>(
+        &mut self,
+        bank: &mut B,
+        port: usize,
+        change: BookChange,
+    ) -> usize
         requires { ⌜ port < mostPorts ⌝ }
         ensures meets { λ r. ⌜ changing r (meaning (now (self .exit))) (ports (now (bank .exit))) ≡ changedAt (changedBy change) port (changing 0 (meaning (now (self .entry))) (ports (now (bank .entry)))) ⌝ }
         ensures most { λ r. ⌜ r ≤ slots ⌝ }

@@ -2,8 +2,8 @@
 ghost use mathlib.Core.Path.{_≡_};
 ghost use Rattle.fabric.specs.States.{meaning, outcome};
 ghost use Rattle.fabric.specs.Shutting.{shutCall, reopenCall};
-use crate::declined::handed_on;
 use crate::declined::Declined;
+use crate::declined::handed_on;
 use crate::fabric::Fabric;
 use bank::bank::Bank;
 

@@ -55,24 +55,27 @@ module _ (Q : ℕ → Type 0) (r : Result Answer Declined) where
   full-at k0 (p ∷ path) (inl v) zero = ((λ e. absurd (omega (arith, not-before (k0 + 1) (k0 + 0) path (v .1) e))), (λ f. absurd (f .1 (v .0))))
   full-at k0 (p ∷ path) (inl v) (suc k) =
       let ih = full-at (k0 + 1) path (v .1) k in
-      let moved : k0 + suc k ≡ k0 + 1 + k = omega arith in
-      ( (λ e. let f = ih .0 (e ∙ ap (λ x. Err (byFabric NoRoom x)) moved) in (omega (arith, f .0), f .1, below (f .2)))
-      , (λ f. ih .1 (omega (arith, f .0), f .1, λ j l. f .2 (suc j) (omega arith)) ∙ ap (λ x. Err (byFabric NoRoom x)) (sym moved)) )
+      let moved : k0 + suc k ≡ k0 + 1 + k = omega arith in (
+        (λ e. let f = ih .0 (e ∙ ap (λ x. Err (byFabric NoRoom x)) moved) in (omega (arith, f .0), f .1, below (f .2))),
+        (λ f. ih .1 (omega (arith, f .0), f .1, λ j l. f .2 (suc j) (omega arith)) ∙ ap (λ x. Err (byFabric NoRoom x)) (sym moved)),
+      )
     where
       below : ((j : ℕ) → j < k → Q (getD path j 0)) → (j : ℕ) → j < suc k → Q (getD (p ∷ path) j 0)
       below f zero l = v .0
       below f (suc j) l = f j (omega arith)
   full-at k0 (p ∷ path) (inr n) zero = ((λ e. (omega arith, n .0, λ j l. absurd (omega arith))), (λ f. n .1 ∙ ap (λ x. Err (byFabric NoRoom x)) {x = k0} {y = k0 + 0} (omega arith)))
-  full-at k0 (p ∷ path) (inr n) (suc k) =
-      ( (λ e. absurd (omega (arith, same-hop k0 (k0 + suc k) (sym (n .1) ∙ e))))
-      , (λ f. absurd (n .0 (f .2 0 (omega arith)))) )
+  full-at k0 (p ∷ path) (inr n) (suc k) = (
+    (λ e. absurd (omega (arith, same-hop k0 (k0 + suc k) (sym (n .1) ∙ e)))),
+    (λ f. absurd (n .0 (f .2 0 (omega arith)))),
+  )
 
 pub admitted : (count : ℕ) (h : History) (n l w : ℕ) (path : List ℕ) (r : Result Answer Declined) → Verdict (questions count h (reserve n l w path)) r
     → Passes count h n l w path → (k : ℕ) → (r ≡ Err (byFabric NoRoom k)) ↔ First-full h (spacingFor l w) path k
 unfolding Full
-admitted count h n l w path r v y k =
-    ( (λ e. let f = iff .0 (e ∙ ap (λ x. Err (byFabric NoRoom x)) {x = k} {y = 0 + k} (omega arith)) in record { hop = f .0; full = f .1; before = f .2 })
-    , (λ f. iff .1 (f .hop, f .full, f .before) ∙ ap (λ x. Err (byFabric NoRoom x)) {x = 0 + k} {y = k} (omega arith)) )
+admitted count h n l w path r v y k = (
+  (λ e. let f = iff .0 (e ∙ ap (λ x. Err (byFabric NoRoom x)) {x = k} {y = 0 + k} (omega arith)) in record { hop = f .0; full = f .1; before = f .2 }),
+  (λ f. iff .1 (f .hop, f .full, f .before) ∙ ap (λ x. Err (byFabric NoRoom x)) {x = 0 + k} {y = k} (omega arith)),
+)
   where
     Q : ℕ → Type 0
     Q p = Room h (spacingFor l w) p

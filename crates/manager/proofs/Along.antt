@@ -75,10 +75,10 @@ holders-has n k zero (b ∷ bs) l = cond-both (holds n b) (k ∷ holders n (k + 
     (λ e. holders-below n (k + 1) (k + 0) bs (omega arith) ∙ sym e)
 holders-has n k (suc i) (b ∷ bs) l =
     let again : among (k + suc i) (holders n (k + 1) bs) ≡ holds n (bookAt bs i) =
-        subst (λ x. among x (holders n (k + 1) bs) ≡ holds n (bookAt bs i)) {x = k + 1 + i} {y = k + suc i} (omega arith) (holders-has n (k + 1) i bs (omega arith)) in
+    subst (λ x. among x (holders n (k + 1) bs) ≡ holds n (bookAt bs i)) {x = k + 1 + i} {y = k + suc i} (omega arith) (holders-has n (k + 1) i bs (omega arith)) in
     cond-both (holds n b) (k ∷ holders n (k + 1) bs) (holders n (k + 1) bs) (λ (x : List ℕ). among (k + suc i) x ≡ holds n (bookAt bs i))
-        (λ e. among-there (k + suc i) k (holders n (k + 1) bs) (λ e. omega arith) ∙ again)
-        (λ e. again)
+    (λ e. among-there (k + suc i) k (holders n (k + 1) bs) (λ e. omega arith) ∙ again)
+    (λ e. again)
 
 pub holders-past : (n k q : ℕ) (bs : List Ranks) → k + length bs ≤ q → among q (holders n k bs) ≡ false
 holders-past n k q [] l = refl
@@ -127,8 +127,8 @@ programmed-all p s (old ∷ olds) [] front ps inp open? is at same fits lanes = 
 programmed-all p s (old ∷ olds) (new ∷ news) front ps inp open? is at same fits lanes =
     ap (programmed p (s + 1) olds news) next
     ∙ programmed-all p (s + 1) olds news (front ++ (new ∷ [])) ps′ (omega (arith, length-set ps p (port (portAt ps p) (front ++ (new ∷ olds)))))
-        (ap (λ (x : Port). x .«open») here ∙ open?) (ap (λ (x : Port). x .slots) here ∙ sym (append-assoc front (new ∷ []) olds))
-        (omega (arith, length-append front (new ∷ []))) (omega (arith, same)) (omega (arith, fits)) (lanes .1)
+    (ap (λ (x : Port). x .«open») here ∙ open?) (ap (λ (x : Port). x .slots) here ∙ sym (append-assoc front (new ∷ []) olds))
+    (omega (arith, length-append front (new ∷ []))) (omega (arith, same)) (omega (arith, fits)) (lanes .1)
     ∙ ap (λ (x : Port). set ps′ p (port x ((front ++ (new ∷ [])) ++ news))) here
     ∙ set-set ps p (port (portAt ps p) (front ++ (new ∷ olds))) (port (portAt ps p) ((front ++ (new ∷ [])) ++ news))
     ∙ ap (withSlots ps p) (append-assoc front (new ∷ []) news)
@@ -143,7 +143,7 @@ programmed-all p s (old ∷ olds) (new ∷ news) front ps inp open? is at same f
     next = cond-both (sameSlot old new) ps (writeAfter ps p s new) (λ x. x ≡ ps′)
         (λ e. sym (ap (λ zs. withSlots ps p zs) (ap (λ y. front ++ (y ∷ olds)) (sym (same-slot old new e)) ∙ sym is) ∙ set-getD ps p noPort))
         (λ e. wrote ps p s new inp (omega arith) (lanes .0) open?
-            ∙ ap (withSlots ps p) (ap (λ zs. set zs s new) is ∙ ap (λ n. set (front ++ (old ∷ olds)) n new) (sym at) ∙ set-front front olds old new))
+        ∙ ap (withSlots ps p) (ap (λ zs. set zs s new) is ∙ ap (λ n. set (front ++ (old ∷ olds)) n new) (sym at) ∙ set-front front olds old new))
 
 -- another port stays
 write-other : (ps : List Port) (q s p : ℕ) (w : Slot) → (p ≡ q → ⊥) → portAt (writeAfter ps q s w) p ≡ portAt ps p

@@ -48,13 +48,12 @@ service-verdict l w = go (ltb l (length distances)) (leb 1 w && leb w (mostWeigh
   where
     go : (a b : Bool) → Answers a (l < length distances) → Answers b ((1 ≤ w) × (w ≤ mostWeight * slots))
         → Verdict (question (l < length distances) (byFabric BadLevel 0) ∷ question ((1 ≤ w) × (w ≤ mostWeight * slots)) (byFabric BadWeight 0) ∷ [])
-            (orDeclined (cond a (cond b (Ok (serviceIn bits (getD distances l 0) w)) (Err BadWeight)) (Err BadLevel)))
+        (orDeclined (cond a (cond b (Ok (serviceIn bits (getD distances l 0) w)) (Err BadWeight)) (Err BadLevel)))
     go true true x y = inl (x .yes refl, inl (y .yes refl, tt))
     go true false x y = inl (x .yes refl, inr (y .never refl, refl))
     go false b x y = inr (x .never refl, refl)
 
 module _ (w : World) (h : History) (qs : ℕ → ℕ → List ℕ) (k : Kept (length (w .ports)) w (isOpen h) (live h) qs) where
-
   abbrev count : ℕ
   count = length (w .ports)
 
@@ -128,9 +127,9 @@ module _ (w : World) (h : History) (qs : ℕ → ℕ → List ℕ) (k : Kept (le
       ∷ each (λ j p. question ((p < count) × (among p (take j path) ≡ false)) (byFabric BadPath j)) 0 path) (askPath count path)
   path-verdict path =
       verdict-then (question (1 ≤ length path) (byFabric BadPath 0) ∷ []) (question (length path ≤ mostHops) (byFabric BadPath mostHops) ∷ hops) (ask (leb 1 (length path)) (byFabric BadPath 0)) _
-          (verdict-ask (1 ≤ length path) (leb 1 (length path)) (byFabric BadPath 0) (at-most 1 (length path))) (λ _ _.
+      (verdict-ask (1 ≤ length path) (leb 1 (length path)) (byFabric BadPath 0) (at-most 1 (length path))) (λ _ _.
       verdict-then (question (length path ≤ mostHops) (byFabric BadPath mostHops) ∷ []) hops (ask (leb (length path) mostHops) (byFabric BadPath mostHops)) _
-          (verdict-ask (length path ≤ mostHops) (leb (length path) mostHops) (byFabric BadPath mostHops) (at-most (length path) mostHops)) (λ _ _.
+      (verdict-ask (length path ≤ mostHops) (leb (length path) mostHops) (byFabric BadPath mostHops) (at-most (length path) mostHops)) (λ _ _.
       verdict-each (λ j p. (p < count) × (among p (take j path) ≡ false)) (hopFits count path) (byFabric BadPath) 0 path (λ i l. hop-answers path (0 + i) (getD path i 0))))
     where
       hops : List Question
@@ -140,11 +139,11 @@ module _ (w : World) (h : History) (qs : ℕ → ℕ → List ℕ) (k : Kept (le
   reserve-verdict n l x path =
       past-start (questions count h (reserve n l x path)) _ (
       verdict-then (question ((1 ≤ n) × (n ≤ mostNumber)) (byFabric BadNumber 0) ∷ []) (services ++ (paths ++ (opens ++ (news ++ rooms)))) (askNumber n) _
-          (verdict-ask ((1 ≤ n) × (n ≤ mostNumber)) (leb 1 n && leb n mostNumber) (byFabric BadNumber 0) (between 1 n mostNumber)) (λ _ _.
+      (verdict-ask ((1 ≤ n) × (n ≤ mostNumber)) (leb 1 n && leb n mostNumber) (byFabric BadNumber 0) (between 1 n mostNumber)) (λ _ _.
       verdict-then services (paths ++ (opens ++ (news ++ rooms))) (orDeclined (serviceFor l x)) _ (service-verdict l x) (λ service served.
       verdict-then paths (opens ++ (news ++ rooms)) (askPath count path) _ (path-verdict path) (λ u hops.
       verdict-then opens (news ++ rooms) (askOpen (w .ports) path) _
-          (verdict-each (λ j p. isOpen h p ≡ true) (λ j p. portAt (w .ports) p .«open») (byBank PortShut) 0 path (λ i inside. open-answers (getD path i 0) (low u hops i inside))) (λ _ _.
+      (verdict-each (λ j p. isOpen h p ≡ true) (λ j p. portAt (w .ports) p .«open») (byBank PortShut) 0 path (λ i inside. open-answers (getD path i 0) (low u hops i inside))) (λ _ _.
       verdict-then news rooms (askNew n (w .state .books)) _ (verdict-ask (IsLive h n → ⊥) (not (isLive n (w .state .books))) (byFabric AlreadyLive 0) (new-answers n)) (λ _ _.
       last service served u hops))))))
     where
@@ -175,9 +174,9 @@ module _ (w : World) (h : History) (qs : ℕ → ℕ → List ℕ) (k : Kept (le
       last service served u hops =
           let fit = service-fits l x service served in
           subst (λ m. Verdict rooms (andThen (askRoom m (w .state .books) path) (λ _. Ok (admission n l x service)))) (sym (ap (λ (y : Service). y .size) (fit .2)))
-              (verdict-follows rooms (askRoom (sizeOf bits (spacingFor l x)) (w .state .books) path) _ (then-follows (askRoom (sizeOf bits (spacingFor l x)) (w .state .books) path))
-                  (verdict-each (λ j p. Room h (spacingFor l x) p) (λ j p. leb (sizeOf bits (spacingFor l x)) (freeRanks bits (bookAt (w .state .books) p))) (byFabric NoRoom) 0 path
-                      (λ i inside. room-answers l x (getD path i 0) (low u hops i inside) (fit .0) (fit .1))))
+          (verdict-follows rooms (askRoom (sizeOf bits (spacingFor l x)) (w .state .books) path) _ (then-follows (askRoom (sizeOf bits (spacingFor l x)) (w .state .books) path))
+          (verdict-each (λ j p. Room h (spacingFor l x) p) (λ j p. leb (sizeOf bits (spacingFor l x)) (freeRanks bits (bookAt (w .state .books) p))) (byFabric NoRoom) 0 path
+          (λ i inside. room-answers l x (getD path i 0) (low u hops i inside) (fit .0) (fit .1))))
         where
           then-follows : (r : Result (Unit {0}) Declined) → Follows r (andThen r (λ _. Ok (admission n l x service)))
           then-follows (Ok u) = record { taken = λ t. tt; declined = λ e same. let z : _≡_ {A = ℕ} 0 1 = cc in absurd (omega arith) }
@@ -187,11 +186,11 @@ module _ (w : World) (h : History) (qs : ℕ → ℕ → List ℕ) (k : Kept (le
   release-verdict n =
       past-start (questions count h (release n)) _ (
       verdict-then (question ((1 ≤ n) × (n ≤ mostNumber)) (byFabric BadNumber 0) ∷ []) (lives ++ holders) (askNumber n) _
-          (verdict-ask ((1 ≤ n) × (n ≤ mostNumber)) (leb 1 n && leb n mostNumber) (byFabric BadNumber 0) (between 1 n mostNumber)) (λ _ _.
+      (verdict-ask ((1 ≤ n) × (n ≤ mostNumber)) (leb 1 n && leb n mostNumber) (byFabric BadNumber 0) (between 1 n mostNumber)) (λ _ _.
       verdict-then lives holders (askLive n (w .state .books)) _ (verdict-ask (IsLive h n) (isLive n (w .state .books)) (byFabric NotLive 0) (live-answers n)) (λ _ _.
       verdict-first (λ p. has n (live h p) ≡ true → isOpen h p ≡ true) (freeOrOpen n (w .ports)) (byBank PortShut) 0 count (w .state .books) [] (omega (arith, k .books, k .most))
-          (λ i l. subst (λ j. Answers (freeOrOpen n (w .ports) j (bookAt (w .state .books) i)) (has n (live h j) ≡ true → isOpen h j ≡ true)) {x = i} {y = 0 + i} (omega arith) (holder-answers n i l))
-          (λ i m l. subst (λ j. freeOrOpen n (w .ports) j (bookAt (w .state .books) i) ≡ true) {x = i} {y = 0 + i} (omega arith) (past-free n i m l)))))
+      (λ i l. subst (λ j. Answers (freeOrOpen n (w .ports) j (bookAt (w .state .books) i)) (has n (live h j) ≡ true → isOpen h j ≡ true)) {x = i} {y = 0 + i} (omega arith) (holder-answers n i l))
+      (λ i m l. subst (λ j. freeOrOpen n (w .ports) j (bookAt (w .state .books) i) ≡ true) {x = i} {y = 0 + i} (omega arith) (past-free n i m l)))))
     where
       lives : List Question
       lives = question (IsLive h n) (byFabric NotLive 0) ∷ []

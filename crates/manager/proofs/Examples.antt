@@ -39,8 +39,37 @@ sound = record { some = omega arith; most = omega arith; ports = refl; lanes = e
 
 genuine : Genuine beginning history
 unfolding performed reversed spacing freeRanks lowestFirst placeFor filled releasedAt released holds contents changedSlots turn
-genuine = (refl, (refl, (refl, (refl, (refl, (refl, (refl, (refl, (refl, (refl,
-    (omega arith, omega arith, (omega arith, omega arith), (omega arith, omega arith, (omega arith, omega arith), (refl, (refl, (refl, (refl, tt))))))))))))))))
+genuine = (
+  refl,
+  (
+    refl,
+    (
+      refl,
+      (
+        refl,
+        (
+          refl,
+          (
+            refl,
+            (
+              refl,
+              (
+                refl,
+                (
+                  refl,
+                  (
+                    refl,
+                    (omega arith, omega arith, (omega arith, omega arith), (omega arith, omega arith, (omega arith, omega arith), (refl, (refl, (refl, (refl, tt)))))),
+                  ),
+                ),
+              ),
+            ),
+          ),
+        ),
+      ),
+    ),
+  ),
+)
 
 pub witness : Witness
 unfolding spacing without

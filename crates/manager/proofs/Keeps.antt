@@ -147,7 +147,7 @@ module _ (x : Session) (ft : Fits bits x) where
   pub divides : slots % spacingOf bits x ≡ 0
   divides =
       ap (λ y. y % spacingOf bits x) {x = slots} {y = 2 ^ ft .level * spacingOf bits x + 0}
-          (omega (arith, split-pow bits (ft .level) (ft .low), ap (λ y. 2 ^ ft .level * y) spacing-is))
+      (omega (arith, split-pow bits (ft .level) (ft .low), ap (λ y. 2 ^ ft .level * y) spacing-is))
       ∙ mod-mul-add (2 ^ ft .level) (spacingOf bits x) 0 (omega (arith, spacing-is, pow-pos (bits - ft .level)))
 
   pub weights : Carries (grantOf x) (x .size)

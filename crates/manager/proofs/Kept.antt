@@ -177,7 +177,6 @@ abbrev turned : World → Change → World
 turned w c = record { state = c .state; ports = c .ports; waiting = w .waiting }
 
 module _ (count : ℕ) (op : ℕ → Bool) (qs : ℕ → ℕ → List ℕ) (change : Ranks → Ranks) where
-
   module _ (w : World) (n : ℕ) (lv : ℕ → List Session) (k : Kept count w op lv qs) (q : ℕ) (new : List Session)
       (inq : q < count) (open? : op q ≡ true) (after : Keeps new (change (bookAt (w .state .books) q))) where
     abbrev old : Ranks
@@ -313,7 +312,6 @@ admitted-facts s ps n l w path is =
     }
 
 module _ (count : ℕ) (w : World) (op : ℕ → Bool) (lv : ℕ → List Session) (qs : ℕ → ℕ → List ℕ) (k : Kept count w op lv qs) where
-
   kept-start : Kept count (left w start (done (w .state) (w .ports) [] start)) op (λ p. []) qs
   kept-start = record {
     most = k .most;
@@ -382,10 +380,11 @@ module _ (count : ℕ) (w : World) (op : ℕ → Bool) (lv : ℕ → List Sessio
           let in16 : p < mostPorts = omega (arith, low, k .most) in
           let book = bookAt (w .state .books) p in
           let new : has n (lv p) ≡ false = sym (held-is n p in16) ∙ live-none n (w .state .books) (f .new) p (omega (arith, k .books)) in
-          let room : leb (sizeOf bits (spacingFor l x)) (freeRanks bits book) ≡ true = subst (λ q. leb (sizeOf bits (spacingFor l x)) (freeRanks bits (bookAt (w .state .books) q)) ≡ true) (r .2) (f .room (r .0) (r .1)) in
-          ( low
-          , sym (k .opens p low) ∙ subst (λ q. portAt (w .ports) q .«open» ≡ true) (r .2) (f .opens (r .0) (r .1))
-          , subst (λ xs. Keeps xs (filled bits book (booked n l x))) (sym (cond-true (among p path) _ _ e)) (keeps-more n l x (f .level) (f .weight .0) (f .weight .1) (lv p) book (k .keeps p in16) new room) )
+          let room : leb (sizeOf bits (spacingFor l x)) (freeRanks bits book) ≡ true = subst (λ q. leb (sizeOf bits (spacingFor l x)) (freeRanks bits (bookAt (w .state .books) q)) ≡ true) (r .2) (f .room (r .0) (r .1)) in (
+            low,
+            sym (k .opens p low) ∙ subst (λ q. portAt (w .ports) q .«open» ≡ true) (r .2) (f .opens (r .0) (r .1)),
+            subst (λ xs. Keeps xs (filled bits book (booked n l x))) (sym (cond-true (among p path) _ _ e)) (keeps-more n l x (f .level) (f .weight .0) (f .weight .1) (lv p) book (k .keeps p in16) new room),
+          )
 
   pub holder-is : (n p : ℕ) → p < mostPorts → among p (holders n 0 (w .state .books)) ≡ has n (lv p)
   holder-is n p l = subst (λ x. among x (holders n 0 (w .state .books)) ≡ holds n (bookAt (w .state .books) p)) {x = 0 + p} {y = p} (omega arith) (holders-has n 0 p (w .state .books) (omega (arith, k .books))) ∙ held-is n p l

@@ -80,7 +80,6 @@ same-lanes xs ys f g h = same-lists xs ys (f .count ∙ sym (g .count))
     (λ v d l. getD-default xs v d [] l ∙ h v ∙ getD-default ys v [] d (omega (arith, f .count, g .count)))
 
 module _ (s s′ : State) (ps ps′ : List Port) (qs qs′ : List (List ℕ)) (c : Ask) (r : Result Answer Declined) (fit : LanesFit qs) (meets : leaving r s′ ps′ qs′ ≡ performed s ps qs c) where
-
   pub carried : Carries s ps qs c r s′ ps′ qs′
   carried b h st lanes = (next, after, guaranteed b (called c r ∷ h) s′ ps′ next)
     where
@@ -111,7 +110,7 @@ module _ (s s′ : State) (ps ps′ : List Port) (qs qs′ : List (List ℕ)) (c
           let same : qs ≡ given c (w .waiting) = given-lanes p is (omega (arith, k .ports)) ∙ sym (ap (λ x. given x (w .waiting)) is) in
           let out : leaving r s′ ps′ qs′ ≡ result w c = here ∙ ap (λ x. performed (w .state) (w .ports) x c) same in
           let now : qs′ ≡ getD (takenBack c (w .waiting) (result w c .queues)) p [] = ap (λ (o : Performed). o .queues) out
-              ∙ sym (ap (λ x. getD (takenBack x (w .waiting) (result w c .queues)) p []) is ∙ getD-set-same (w .waiting) p (result w c .queues) [] (omega (arith, k .waiting))) in
+          ∙ sym (ap (λ x. getD (takenBack x (w .waiting) (result w c .queues)) p []) is ∙ getD-set-same (w .waiting) p (result w c .queues) [] (omega (arith, k .waiting))) in
           ap (λ x. queue x v) now ∙ k′ .queues p inp v
 
   pub begins : Begins ps c r s′ ps′

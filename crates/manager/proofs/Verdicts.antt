@@ -64,8 +64,8 @@ verdict-first Q test d k (suc n) [] none l h past = absurd (omega arith)
 verdict-first Q test d k (suc n) (x ∷ xs) none l h past = verdict-next (Q k) (test k x) (d k) (each (λ j p. question (Q p) (d p)) (k + 1) (counting (k + 1) n)) (askEach test d (k + 1) xs)
     (subst (λ j. Answers (test j x) (Q j)) {x = k + 0} {y = k} (omega arith) (h 0 (omega arith)))
     (λ e. verdict-first Q test d (k + 1) n xs none (omega arith)
-        (λ i l. subst (λ j. Answers (test j (getD xs i none)) (Q j)) {x = k + suc i} {y = k + 1 + i} (omega arith) (h (suc i) (omega arith)))
-        (λ i m l. subst (λ j. test j (getD xs i none) ≡ true) {x = k + suc i} {y = k + 1 + i} (omega arith) (past (suc i) (omega arith) (omega arith))))
+    (λ i l. subst (λ j. Answers (test j (getD xs i none)) (Q j)) {x = k + suc i} {y = k + 1 + i} (omega arith) (h (suc i) (omega arith)))
+    (λ i m l. subst (λ j. test j (getD xs i none) ≡ true) {x = k + suc i} {y = k + 1 + i} (omega arith) (past (suc i) (omega arith) (omega arith))))
 
 -- the same verdict on what follows it
 pub record Follows {A B : Type 0} (r : Result A Declined) (t : Result B Declined) : Type 0 where

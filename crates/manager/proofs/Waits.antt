@@ -83,7 +83,6 @@ without-fewer n (x ∷ xs) h = go (eqb (x .number) n) (has n xs) (without-fewer 
     go false u ih h = omega (arith, ih h)
 
 module _ (p v : ℕ) (table : List Slot) (most : ℕ) (small : (k : ℕ) → slotOn table k .weight ≤ mostWeight) where
-
   -- at a moment of the wait, after packets that cost so much
   record Run (w : World) (sum : ℕ) : Type 0 where
     slots-are : portAt (w .ports) p .slots ≡ table
@@ -121,14 +120,17 @@ module _ (p v : ℕ) (table : List Slot) (most : ℕ) (small : (k : ℕ) → slo
   -- an accepted pick at the port that does not take from lane v
   picks : (w : World) (sum : ℕ) (a : Answer) → p < length (w .waiting) → p < length (w .state .pointers) → Ok a ≡ done (w .state) (w .ports) (getD (w .waiting) p []) (pick p) .answer
       → sendsFrom v a ≡ false → Run w sum → (sends a ≡ true) × Run (left w (pick p) (done (w .state) (w .ports) (getD (w .waiting) p []) (pick p))) (paid a + sum)
-  picks w sum a inw inp is missed r = (ap sends same ∙ st .0, record {
-    slots-are = r .slots-are;
-    d = st .1 .0;
-    aim = subst (λ y. Aim table v y (getD (set (w .waiting) p (got .queues)) p []) (st .1 .0)) (sym at′)
-        (subst (λ y. Aim table v (got .pointer) y (st .1 .0)) (sym (getD-set-same (w .waiting) p (got .queues) [] inw))
-        (st .1 .1));
-    spends = subst (λ y. potential (usable table y) (st .1 .0) + (paid a + sum) ≤ most) (sym at′) (omega (arith, st .1 .2, r .spends, ap paid same));
-  })
+  picks w sum a inw inp is missed r = (
+    ap sends same ∙ st .0,
+    record {
+      slots-are = r .slots-are;
+      d = st .1 .0;
+      aim = subst (λ y. Aim table v y (getD (set (w .waiting) p (got .queues)) p []) (st .1 .0)) (sym at′)
+          (subst (λ y. Aim table v (got .pointer) y (st .1 .0)) (sym (getD-set-same (w .waiting) p (got .queues) [] inw))
+          (st .1 .1));
+      spends = subst (λ y. potential (usable table y) (st .1 .0) + (paid a + sum) ≤ most) (sym at′) (omega (arith, st .1 .2, r .spends, ap paid same));
+    },
+  )
     where
       at : Pointer
       at = pointerAt (w .state .pointers) p
@@ -157,7 +159,6 @@ state-slots ps q p b l = go (cases-eq q p)
     go (inr n) = ap (λ (x : Port). x .slots) (getD-set-other ps q p _ noPort (λ e. n (sym e)))
 
 module _ (count p v : ℕ) (inp : p < count) (table : List Slot) (most : ℕ) (small : (k : ℕ) → slotOn table k .weight ≤ mostWeight) where
-
   abbrev Goes : World → Ask → Answer → ℕ → Performed → Type 0
   Goes w c a sum o = (picksAt p c ≡ true → sends a ≡ true) × Run p v table most small (left w c o) (cond (picksAt p c) (paid a) 0 + sum)
 
@@ -167,8 +168,8 @@ module _ (count p v : ℕ) (inp : p < count) (table : List Slot) (most : ℕ) (s
   off-path w sum change path e r =
       let o = changedAlong change path (changing 0 (w .state) (w .ports)) in
       subst (Run p v table most small (record { state = o .state; ports = o .ports; waiting = w .waiting })) {x = sum} {y = 0 + sum} (omega arith)
-          (still p v table most small w (record { state = o .state; ports = o .ports; waiting = w .waiting }) sum (ap (λ (y : Port). y .slots) (along-off change path (changing 0 (w .state) (w .ports)) p e))
-              (ap (λ xs. pointerAt xs p) (along-pointers change path (changing 0 (w .state) (w .ports)))) refl r)
+      (still p v table most small w (record { state = o .state; ports = o .ports; waiting = w .waiting }) sum (ap (λ (y : Port). y .slots) (along-off change path (changing 0 (w .state) (w .ports)) p e))
+      (ap (λ xs. pointerAt xs p) (along-pointers change path (changing 0 (w .state) (w .ports)))) refl r)
 
   done-step : (w : World) (op : ℕ → Bool) (lv : ℕ → List Session) (qs : ℕ → ℕ → List ℕ) (sum : ℕ) → Kept count w op lv qs → 0 < length (lv p)
       → (c : Ask) (a : Answer) → Ok a ≡ done (w .state) (w .ports) (given c (w .waiting)) c .answer → changed c p (lv p) ≡ lv p
@@ -187,29 +188,36 @@ module _ (count p v : ℕ) (inp : p < count) (table : List Slot) (most : ℕ) (s
       go : (among p path ≡ true) ⊎ (among p path ≡ false) → Run p v table most small (left w (release n) (done (w .state) (w .ports) [] (release n))) (0 + sum)
       go (inl e) = absurd (omega (arith, without-fewer n (lv p) (sym (holder-is count w op lv qs k n p (omega (arith, k .most))) ∙ e), ap length keeps))
       go (inr e) = off-path w sum (λ b. released bits b n) path e r
-  done-step w op lv qs sum k some (shut q) a is keeps missed r = ((λ e. absurd (both-ways false refl e)),
-      subst (Run p v table most small (left w (shut q) (done (w .state) (w .ports) [] (shut q)))) {x = sum} {y = 0 + sum} (omega arith)
-          (still p v table most small w _ sum (state-slots (w .ports) q p false (omega (arith, k .ports))) refl refl r))
-  done-step w op lv qs sum k some (reopen q) a is keeps missed r = ((λ e. absurd (both-ways false refl e)),
-      subst (Run p v table most small (left w (reopen q) (done (w .state) (w .ports) [] (reopen q)))) {x = sum} {y = 0 + sum} (omega arith)
-          (still p v table most small w _ sum (state-slots (w .ports) q p true (omega (arith, k .ports))) refl refl r))
+  done-step w op lv qs sum k some (shut q) a is keeps missed r = (
+    (λ e. absurd (both-ways false refl e)),
+    subst (Run p v table most small (left w (shut q) (done (w .state) (w .ports) [] (shut q)))) {x = sum} {y = 0 + sum} (omega arith)
+        (still p v table most small w _ sum (state-slots (w .ports) q p false (omega (arith, k .ports))) refl refl r),
+  )
+  done-step w op lv qs sum k some (reopen q) a is keeps missed r = (
+    (λ e. absurd (both-ways false refl e)),
+    subst (Run p v table most small (left w (reopen q) (done (w .state) (w .ports) [] (reopen q)))) {x = sum} {y = 0 + sum} (omega arith)
+        (still p v table most small w _ sum (state-slots (w .ports) q p true (omega (arith, k .ports))) refl refl r),
+  )
   done-step w op lv qs sum k some (pick q) a is keeps missed r = go (cases-eq q p)
     where
       go : (q ≡ p) ⊎ (q ≡ p → ⊥) → Goes w (pick q) a sum (done (w .state) (w .ports) (getD (w .waiting) q []) (pick q))
       go (inl e) =
           let t : eqb q p ≡ true = eq-eqb q p e in
           let is′ : Ok a ≡ done (w .state) (w .ports) (getD (w .waiting) p []) (pick p) .answer = subst (λ y. Ok a ≡ done (w .state) (w .ports) (getD (w .waiting) y []) (pick y) .answer) e is in
-          let x = picks p v table most small w sum a (omega (arith, k .waiting)) (omega (arith, k .pointers, k .most)) is′ (missed t) r in
-          ((λ _. x .0), subst (λ y. Run p v table most small (left w (pick q) (done (w .state) (w .ports) (getD (w .waiting) q []) (pick q))) (y + sum)) (sym (cond-true (eqb q p) (paid a) 0 t))
-              (subst (λ y. Run p v table most small (left w (pick y) (done (w .state) (w .ports) (getD (w .waiting) y []) (pick y))) (paid a + sum)) (sym e) (x .1)))
+          let x = picks p v table most small w sum a (omega (arith, k .waiting)) (omega (arith, k .pointers, k .most)) is′ (missed t) r in (
+            (λ _. x .0),
+            subst (λ y. Run p v table most small (left w (pick q) (done (w .state) (w .ports) (getD (w .waiting) q []) (pick q))) (y + sum)) (sym (cond-true (eqb q p) (paid a) 0 t))
+                (subst (λ y. Run p v table most small (left w (pick y) (done (w .state) (w .ports) (getD (w .waiting) y []) (pick y))) (paid a + sum)) (sym e) (x .1)),
+          )
       go (inr n) =
-          let f : eqb q p ≡ false = ne-eqb q p n in
-          ((λ t. absurd (both-ways (eqb q p) f t)), subst (λ y. Run p v table most small (left w (pick q) (done (w .state) (w .ports) (getD (w .waiting) q []) (pick q))) (y + sum)) (sym (cond-false (eqb q p) (paid a) 0 f))
-              (subst (Run p v table most small (left w (pick q) (done (w .state) (w .ports) (getD (w .waiting) q []) (pick q)))) {x = sum} {y = 0 + sum} (omega arith)
-                  (still p v table most small w _ sum refl (getD-set-other (w .state .pointers) q p _ _ (λ e. n (sym e))) (getD-set-other (w .waiting) q p _ [] (λ e. n (sym e))) r)))
+          let f : eqb q p ≡ false = ne-eqb q p n in (
+            (λ t. absurd (both-ways (eqb q p) f t)),
+            subst (λ y. Run p v table most small (left w (pick q) (done (w .state) (w .ports) (getD (w .waiting) q []) (pick q))) (y + sum)) (sym (cond-false (eqb q p) (paid a) 0 f))
+                (subst (Run p v table most small (left w (pick q) (done (w .state) (w .ports) (getD (w .waiting) q []) (pick q)))) {x = sum} {y = 0 + sum} (omega arith)
+                (still p v table most small w _ sum refl (getD-set-other (w .state .pointers) q p _ _ (λ e. n (sym e))) (getD-set-other (w .waiting) q p _ [] (λ e. n (sym e))) r)),
+          )
 
   module _ (b : Beginning) (s : Sound b) (same-count : b .count ≡ count) (earlier : History) (some : 0 < length (live earlier p)) where
-
     -- the wait so far
     abbrev So-far : History → Type 0
     So-far later = (live (later ++ earlier) p ≡ live earlier p) × All-send p later × Run p v table most small (world b (later ++ earlier)) (spent p later)
@@ -238,7 +246,7 @@ module _ (count p v : ℕ) (inp : p < count) (table : List Slot) (most : ℕ) (s
         go ih (inr x) =
             let k = subst (λ n. Kept n w (isOpen (later ++ earlier)) (live (later ++ earlier)) (waits (b .waiting) (later ++ earlier))) same-count (kept b (later ++ earlier) s (g .1)) in
             let st = done-step w (isOpen (later ++ earlier)) (live (later ++ earlier)) (waits (b .waiting) (later ++ earlier)) (spent p later) k (omega (arith, some, ap length (ih .0)))
-                c a (g .0 ∙ ap (λ (o : Performed). o .answer) (x .1)) (u .0) (m .0) (ih .2) in
+            c a (g .0 ∙ ap (λ (o : Performed). o .answer) (x .1)) (u .0) (m .0) (ih .2) in
             (u .0 ∙ ih .0, (st .0, ih .1), subst (λ y. Run p v table most small y (cond (picksAt p c) (paid a) 0 + spent p later)) (sym (ap (left w c) (x .1))) (st .1))
 
 some-of : (q : List ℕ) → (q ≡ [] → ⊥) → some q ≡ true

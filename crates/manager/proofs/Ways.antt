@@ -94,19 +94,19 @@ either (Err e) = inl (e, refl)
 admitted-is : (s : State) (ps : List Port) (n l w : ℕ) (path : List ℕ)
     → ((e : Declined) × (Err e ≡ admitted s ps n l w path)) ⊎ (Ok (admission n l w (serviceIn bits (getD distances l 0) w)) ≡ admitted s ps n l w path)
 admitted-is s ps n l w path =
-    elim (either (admitted s ps n l w path))
-        [ inl x ↦ inl x
-        | inr x ↦
-            let a = x .0 in
-            let started = then-ok (askStarted s ps) _ a (x .1) in
-            let numbered = then-ok (askNumber n) _ a (started .2) in
-            let served = then-ok (orDeclined (serviceFor l w)) _ a (numbered .2) in
-            let hops = then-ok (askPath (length ps) path) _ a (served .2) in
-            let opens = then-ok (askOpen ps path) _ a (hops .2) in
-            let new = then-ok (askNew n (s .books)) _ a (opens .2) in
-            let room = then-ok (askRoom (served .0 .size) (s .books) path) _ a (new .2) in
-            inr (ap (λ y. Ok (admission n l w y)) (sym (service-fits l w (served .0) (served .1) .2)) ∙ sym (room .2) ∙ x .1)
-        ]
+    elim (either (admitted s ps n l w path)) [
+      | inl x ↦ inl x
+      | inr x ↦
+          let a = x .0 in
+          let started = then-ok (askStarted s ps) _ a (x .1) in
+          let numbered = then-ok (askNumber n) _ a (started .2) in
+          let served = then-ok (orDeclined (serviceFor l w)) _ a (numbered .2) in
+          let hops = then-ok (askPath (length ps) path) _ a (served .2) in
+          let opens = then-ok (askOpen ps path) _ a (hops .2) in
+          let new = then-ok (askNew n (s .books)) _ a (opens .2) in
+          let room = then-ok (askRoom (served .0 .size) (s .books) path) _ a (new .2) in
+          inr (ap (λ y. Ok (admission n l w y)) (sym (service-fits l w (served .0) (served .1) .2)) ∙ sym (room .2) ∙ x .1)
+    ]
 
 pub ways : (s : State) (ps : List Port) (qs : List (List ℕ)) (c : Ask) → Way s ps qs c
 unfolding performed

@@ -12,7 +12,7 @@ use Rattle.daysheet.proofs.sheet.add_answer.Needs as need
 pub add-front-requires : need.add-front-requires
 add-front-requires g c κs =
     front-within (replicate answerBytes 0) (c .respond-bytes .last .out) (c .respond-bytes .result .0)
-        (answerText (obeyed (meaning (c .args .fabric .now)) (g .B·Bank .ports (c .args .bank .now)) (g .L·Lanes .queues (c .args .lanes .now)) (c .args .line .now) .answer)) (c .respond-bytes .ensures .text)
+    (answerText (obeyed (meaning (c .args .fabric .now)) (g .B·Bank .ports (c .args .bank .now)) (g .L·Lanes .queues (c .args .lanes .now)) (c .args .line .now) .answer)) (c .respond-bytes .ensures .text)
 
 pub returns : need.returns
 returns g c =

@@ -18,5 +18,5 @@ loop-port-again g c = (
 pub returns : need.returns
 returns g c =
     sofar-all (c .args .number) (meaning (c .args .self .now)) (g .B·Bank .ports (c .args .bank .now)) (c .loop-port .port) (c .loop-port .slots)
-        (meaning (c .loop-port .self)) (g .B·Bank .ports (c .loop-port .bank)) (c .loop-port .inv .0)
-        (omega (arith, c .book-count-port-end .ensures .all, c .book-count-port-end .ensures .value))
+    (meaning (c .loop-port .self)) (g .B·Bank .ports (c .loop-port .bank)) (c .loop-port .inv .0)
+    (omega (arith, c .book-count-port-end .ensures .all, c .book-count-port-end .ensures .value))

@@ -48,29 +48,29 @@ bound γ w w′ κ M 𝓤 H 𝓜 𝓖 𝓡 =
           (λ τs x y. emp 𝓤)
           (λ τs x y. id⊢ 𝓤 (first·t τs x .requires y))
           (λ τs h.
-              let borrowed = ⊑-trans (τs .1 .0) (row .lives) κ (h .1 .0) (search inside depth 24 fits 20000) in
-              ((⊑-refl (τs .0), (borrowed, tt)), (⊑-trans (τs .0) (τs .1 .0) κ (h .0 .0) borrowed, tt)))
+          let borrowed = ⊑-trans (τs .1 .0) (row .lives) κ (h .1 .0) (search inside depth 24 fits 20000) in
+          ((⊑-refl (τs .0), (borrowed, tt)), (⊑-trans (τs .0) (τs .1 .0) κ (h .0 .0) borrowed, tt)))
           (λ τs x y. y)
           (λ τs h x y. insides-in 𝓤 0 tt tt (emp 𝓤) tt)
           (λ τs x y r.
-              hidden 2 (τs .0, (κ, tt)) 𝓤 H A (F.signature .params) (F.ended .kept) (true, (true, tt)) x
-              (λ ws. F.clauses 𝓤 H A (𝓜 .mem) (𝓡 .returns) (τs .0, (κ, tt)) x .ensures y r (outs {n = 2} (τs .0, (κ, tt)) (F.ended .signature .params) (F.ended .kept) x ws))
-              (λ ws. TF.clauses row ghosts dict 𝓤 H A (𝓜 .mem) (𝓡 .returns) τs x .ensures y r (outs {n = 2} τs (TF.ended row ghosts dict .signature .params) (TF.ended row ghosts dict .kept) x ws))
-              (λ _. search ends depth 24 fits 20000))
+          hidden 2 (τs .0, (κ, tt)) 𝓤 H A (F.signature .params) (F.ended .kept) (true, (true, tt)) x
+          (λ ws. F.clauses 𝓤 H A (𝓜 .mem) (𝓡 .returns) (τs .0, (κ, tt)) x .ensures y r (outs {n = 2} (τs .0, (κ, tt)) (F.ended .signature .params) (F.ended .kept) x ws))
+          (λ ws. TF.clauses row ghosts dict 𝓤 H A (𝓜 .mem) (𝓡 .returns) τs x .ensures y r (outs {n = 2} τs (TF.ended row ghosts dict .signature .params) (TF.ended row ghosts dict .kept) x ws))
+          (λ _. search ends depth 24 fits 20000))
           (widened 𝓤 H (tripleOf 𝓤 H A F.signature first·c) 𝓜 𝓡 γ (γ first·sym.name) (γ (key 0)) (first·sym.as-method γ w (key 0) refl) (first·met.met 𝓤 H 𝓜 𝓖 (within 𝓤 H 𝓜 𝓡 γ) w));
       take = implements 𝓤 H A T.signature 2 (TT.ended row ghosts dict .signature .outlives) (λ τs. (τs .0, (κ, tt))) (givenOf 𝓤 H 𝓜 𝓖)
           (𝓡 .run (γ (key 1))) (run-framed 𝓤 H 𝓜 𝓡 (γ (key 1))) take·c (λ τs x. record { ghost = take·t τs x .ghost; requires = λ y. take·t τs x .requires y; ensures = take·t τs x .ensures }) 1 (λ τs. (τs .1 .0, tt)) (λ τs. (row .lives, tt)) ((0, tt), ((1, tt), tt))
           (λ τs x y. emp 𝓤)
           (λ τs x y. id⊢ 𝓤 (take·t τs x .requires y))
           (λ τs h.
-              let borrowed = ⊑-trans (τs .1 .0) (row .lives) κ (h .1 .0) (search inside depth 24 fits 20000) in
-              ((⊑-refl (τs .0), (borrowed, tt)), (⊑-trans (τs .0) (τs .1 .0) κ (h .0 .0) borrowed, tt)))
+          let borrowed = ⊑-trans (τs .1 .0) (row .lives) κ (h .1 .0) (search inside depth 24 fits 20000) in
+          ((⊑-refl (τs .0), (borrowed, tt)), (⊑-trans (τs .0) (τs .1 .0) κ (h .0 .0) borrowed, tt)))
           (λ τs x y. y)
           (λ τs h x y. insides-in 𝓤 0 tt tt (emp 𝓤) tt)
           (λ τs x y r.
-              hidden 2 (τs .0, (κ, tt)) 𝓤 H A (T.signature .params) (T.ended .kept) (true, (true, tt)) x
-              (λ ws. T.clauses 𝓤 H A (𝓜 .mem) (𝓡 .returns) (τs .0, (κ, tt)) x .ensures y r (outs {n = 2} (τs .0, (κ, tt)) (T.ended .signature .params) (T.ended .kept) x ws))
-              (λ ws. TT.clauses row ghosts dict 𝓤 H A (𝓜 .mem) (𝓡 .returns) τs x .ensures y r (outs {n = 2} τs (TT.ended row ghosts dict .signature .params) (TT.ended row ghosts dict .kept) x ws))
-              (λ _. search ends depth 24 fits 20000))
+          hidden 2 (τs .0, (κ, tt)) 𝓤 H A (T.signature .params) (T.ended .kept) (true, (true, tt)) x
+          (λ ws. T.clauses 𝓤 H A (𝓜 .mem) (𝓡 .returns) (τs .0, (κ, tt)) x .ensures y r (outs {n = 2} (τs .0, (κ, tt)) (T.ended .signature .params) (T.ended .kept) x ws))
+          (λ ws. TT.clauses row ghosts dict 𝓤 H A (𝓜 .mem) (𝓡 .returns) τs x .ensures y r (outs {n = 2} τs (TT.ended row ghosts dict .signature .params) (TT.ended row ghosts dict .kept) x ws))
+          (λ _. search ends depth 24 fits 20000))
           (widened 𝓤 H (tripleOf 𝓤 H A T.signature take·c) 𝓜 𝓡 γ (γ take·sym.name) (γ (key 1)) (take·sym.as-method γ w′ (key 1) refl) (take·met.met 𝓤 H 𝓜 𝓖 (within 𝓤 H 𝓜 𝓡 γ) w′));
     }
