@@ -1,4 +1,6 @@
 // Banks of ports: what a bank means, the images of its tables, and the banks that are made.
+#![tactic(auto)]
+
 pub mod bank;
 pub mod image;
 pub mod image_bank;

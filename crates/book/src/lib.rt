@@ -1,4 +1,6 @@
 // The book of one port: which sessions hold which ranks of its table, where a new one goes, and what moves when one ends.
+#![tactic(auto)]
+
 pub mod book;
 pub mod books;
 mod moves;

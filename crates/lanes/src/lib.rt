@@ -1,4 +1,6 @@
 // Lanes of a port: what they mean, and the lanes that are made.
+#![tactic(auto)]
+
 mod capture;
 pub mod capture_lanes;
 pub mod capture_lanes_calls;

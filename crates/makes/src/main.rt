@@ -1,4 +1,6 @@
 // Runs one script over both makes of bank, and one over both makes of lanes. The two texts of each pair are the same.
+#![tactic(auto)]
+
 mod answers;
 mod bank_script;
 mod lanes_script;

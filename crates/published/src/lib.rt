@@ -1,4 +1,6 @@
 // Worked examples with their published results, against the public calls.
+#![tactic(auto)]
+
 #[cfg(test)]
 mod bookings;
 #[cfg(test)]

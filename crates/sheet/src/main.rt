@@ -1,4 +1,6 @@
 // Reads a day sheet on standard input and prints an answer line for each of its lines.
+#![tactic(auto)]
+
 use daysheet::sheet::{MOST_BYTES, answer_sheet};
 use std::io;
 use std::io::{Read, Write};

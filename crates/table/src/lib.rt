@@ -1,4 +1,6 @@
 // One port's arbitration table: its slots, their ranks, and what a service level buys in it.
+#![tactic(auto)]
+
 pub mod rank;
 pub mod refusal;
 pub mod service;

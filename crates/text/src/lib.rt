@@ -1,4 +1,6 @@
 // The text of a day sheet: its lines and fields, what a line asks for, and how its answer is written.
+#![tactic(auto)]
+
 pub mod answer;
 pub mod bytes;
 pub mod command;

@@ -12,8 +12,8 @@ loop-slot-preserved g c =
     let ps : List Port = g.B.Bank.ports c.args.bank.now in
     let s = c.loop-slot.slot in
     let full = (g.met.B.Bank.fits c.args.bank.now).long c.args.port (omega arith) in
-    c.put-slot.ensures
-    ∙ (λ i. put_slot (c.loop-slot.invariant i) s (c.slot-at-what.ensures i))
+    c.put_slot.ensures
+    ∙ (λ i. put_slot (c.loop-slot.invariant i) s (c.slot_at-what.ensures i))
     ∙ image_more (port_at ps c.args.port).slots c.args.out.now s (omega arith) (omega arith)
 
 pub returns : goal.returns

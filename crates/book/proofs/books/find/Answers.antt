@@ -3,12 +3,12 @@ use Rattle.book.specs.Entries.{is_number}
 use Rattle.book.proofs.Found.{first_skip, first_hit}
 use Rattle.book.proofs.books.find.Goals as goal
 
-pub returns-then-is-number : goal.returns-then-is-number
-returns-then-is-number c =
+pub returns-then-is_number : goal.returns-then-is_number
+returns-then-is_number c =
     sym (c.loop-f.invariant ∙ first_hit (λ f. is_number c.args.number (get_or c.args.book.now f None)) c.loop-f.f (length c.args.book.now) (omega arith)
-    (sym c.is-number.ensures ∙ c.if-is-number.true))
+    (sym c.is_number.ensures ∙ c.if-is_number.true))
 
 pub loop-f-preserved : goal.loop-f-preserved
 loop-f-preserved c =
     c.loop-f.invariant ∙ first_skip (λ f. is_number c.args.number (get_or c.args.book.now f None)) c.loop-f.f (length c.args.book.now) (omega arith)
-    (sym c.is-number.ensures ∙ c.if-is-number.false)
+    (sym c.is_number.ensures ∙ c.if-is_number.false)

@@ -8,8 +8,8 @@ use Rattle.book.proofs.books.lowest_first.Goals as goal
 pub lowest-requires : goal.lowest-requires
 lowest-requires c = record { top = c.requires; low = (level_found c.args.levels c.args.size c.in-Some.level c.in-Some.ensures).0 }
 
-pub first-of-requires : goal.first-of-requires
-first-of-requires c =
+pub first_of-requires : goal.first_of-requires
+first_of-requires c =
     let n = c.args.levels in
     let l = (level_found n c.args.size c.in-Some.level c.in-Some.ensures).0 in
     record {
@@ -19,8 +19,8 @@ first-of-requires c =
 
 pub returns-in-Some-lowest : goal.returns-in-Some-lowest
 returns-in-Some-lowest c =
-    first_is (free_bits c.args.levels c.args.held) c.args.levels c.args.size c.in-Some.level c.in-Some-lowest.index c.first-of.result
-    c.in-Some.ensures c.in-Some-lowest.ensures c.first-of.ensures
+    first_is (free_bits c.args.levels c.args.held) c.args.levels c.args.size c.in-Some.level c.in-Some-lowest.index c.first_of.result
+    c.in-Some.ensures c.in-Some-lowest.ensures c.first_of.ensures
 
 pub returns-in-None-lowest : goal.returns-in-None-lowest
 returns-in-None-lowest c =

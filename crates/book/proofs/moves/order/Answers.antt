@@ -7,16 +7,16 @@ loop-level-init c =
     let e : suc c.args.levels ≡ c.args.levels + 1 = omega arith in
     (ap (ordering c.args.levels c.args.book.now) e, c.requires.sound, c.requires.bits)
 
-pub order-level-taken-requires : goal.order-level-taken-requires
-order-level-taken-requires c = record { table = omega arith; top = c.requires.top; low = omega arith; bits = c.loop-level.invariant.2; sound = c.loop-level.invariant.1 }
+pub order_level-taken-requires : goal.order_level-taken-requires
+order_level-taken-requires c = record { table = omega arith; top = c.requires.top; low = omega arith; bits = c.loop-level.invariant.2; sound = c.loop-level.invariant.1 }
 
 pub loop-level-preserved : goal.loop-level-preserved
 loop-level-preserved c =
     let e : c.loop-level.level ≡ suc (c.loop-level.level - 1) = omega arith in (
       c.loop-level.invariant.0 ∙ ap (ordering c.args.levels c.loop-level.book) e
-          ∙ ap (λ y. ordering c.args.levels y (c.loop-level.level - 1)) (sym c.order-level-taken.ensures.after),
-      c.order-level-taken.ensures.sound,
-      c.order-level-taken.ensures.bits,
+          ∙ ap (λ y. ordering c.args.levels y (c.loop-level.level - 1)) (sym c.order_level-taken.ensures.after),
+      c.order_level-taken.ensures.sound,
+      c.order_level-taken.ensures.bits,
     )
 
 pub returns : goal.returns

@@ -3,18 +3,18 @@ use Rattle.book.specs.Searches.{count}
 use Rattle.book.specs.Bits.{free_bits}
 use Rattle.book.proofs.Counted.{count_more, count_less}
 use Rattle.book.proofs.ranks.free_ranks.Goals as goal
-use Rattle.book.proofs.ranks.free_ranks.Goals.{then-set-free, else-set-free}
+use Rattle.book.proofs.ranks.free_ranks.Goals.{then-set_free, else-set_free}
 
 pub loop-rank-preserved : goal.loop-rank-preserved
 loop-rank-preserved c =
     let test = free_bits c.args.levels c.args.held 0 in
-    elim c.if-set-free.branch [
-      | then-set-free w ↦ (
-        w.free-is ∙ count_more test c.loop-rank.rank c.loop-rank.free c.loop-rank.invariant.0 (sym w.if-set-free.ensures),
+    elim c.if-set_free.branch [
+      | then-set_free w ↦ (
+        w.free-is ∙ count_more test c.loop-rank.rank c.loop-rank.free c.loop-rank.invariant.0 (sym w.if-set_free.ensures),
         omega (arith, w.free-is, c.loop-rank.invariant.1),
       )
-      | else-set-free w ↦ (
-        w.free-is ∙ count_less test c.loop-rank.rank c.loop-rank.free c.loop-rank.invariant.0 (sym w.if-set-free.ensures),
+      | else-set_free w ↦ (
+        w.free-is ∙ count_less test c.loop-rank.rank c.loop-rank.free c.loop-rank.invariant.0 (sym w.if-set_free.ensures),
         omega (arith, w.free-is, c.loop-rank.invariant.1),
       )
     ]

@@ -9,14 +9,14 @@ pub returns-then-level-levels : goal.returns-then-level-levels
 returns-then-level-levels c =
     let n = c.args.levels in
     let up = free_bits n c.args.held (suc c.args.level) (c.args.index / 2) in
-    sym (and_from (free_bits n c.args.held c.args.level c.args.index) (not up) (sym c.set-free.ensures ∙ c.if-not-set-free.false)
+    sym (and_from (free_bits n c.args.held c.args.level c.args.index) (not up) (sym c.set_free.ensures ∙ c.if-not-set_free.false)
     (not_from_false up (none_above n c.args.held (suc c.args.level) (c.args.index / 2) (omega arith))))
 
-pub set-free-requires-2 : goal.set-free-requires-2
-set-free-requires-2 c =
+pub set_free-requires-2 : goal.set_free-requires-2
+set_free-requires-2 c =
     record { top = c.requires.top; low = omega arith; within = parent_inside c.args.levels c.args.level c.args.index (omega arith) c.requires.within }
 
 pub returns : goal.returns
 returns c =
-    whole_is (free_bits c.args.levels c.args.held) c.args.level c.args.index c.set-free-2.result
-    (sym c.set-free.ensures ∙ c.if-not-set-free.false) c.set-free-2.ensures
+    whole_is (free_bits c.args.levels c.args.held) c.args.level c.args.index c.set_free-2.result
+    (sym c.set_free.ensures ∙ c.if-not-set_free.false) c.set_free-2.ensures

@@ -12,8 +12,8 @@ pub loop-k-preserved : goal.loop-k-preserved
 loop-k-preserved c =
     let what : ℕ → Slot = λ r. cond (ltb (r - c.args.first) c.args.count) c.args.below c.args.behind in
     let e : c.loop-k.k ≡ c.args.first + c.loop-k.k - c.args.first = omega arith in
-    lays_more bits c.args.table.now c.loop-k.table c.args.first c.loop-k.k c.reverse.result what c.by-count.result c.requires.long c.loop-k.invariant (omega arith)
-    c.reverse.ensures.value (c.by-count.ensures ∙ ap (λ k. cond (ltb k c.args.count) c.args.below c.args.behind) e)
+    lays_more bits c.args.table.now c.loop-k.table c.args.first c.loop-k.k c.reverse.result what c.by_count.result c.requires.long c.loop-k.invariant (omega arith)
+    c.reverse.ensures.value (c.by_count.ensures ∙ ap (λ k. cond (ltb k c.args.count) c.args.below c.args.behind) e)
 
 pub returns : goal.returns
 returns c =

@@ -25,7 +25,7 @@ loop-first-preserved-in-Some c =
 
 pub loop-first-preserved : goal.loop-first-preserved
 loop-first-preserved c =
-    laid_empty bits c.args.book.now (c.loop-first.first - 1) c.loop-first.first (omega arith) (omega arith) c.loop-first.table c.loop-first.invariant (sym c.in-default.is)
+    laid_empty bits c.args.book.now (c.loop-first.first - 1) c.loop-first.first (omega arith) (omega arith) c.loop-first.table c.loop-first.invariant (sym c.in_default.is)
 
 pub returns : goal.returns
 returns c =

@@ -7,13 +7,13 @@ use Rattle.daysheet.specs.Sheets.{most_bytes}
 use Rattle.daysheet.proofs.Fronts.{front_within, front, too_long}
 use Rattle.daysheet.proofs.sheet.answer_sheet.Goals as goal
 
-pub add-front-requires : goal.add-front-requires
-add-front-requires c = front_within (replicate answer_bytes 0) c.write-no-bytes.new.out c.write-no-bytes.result (no_text LongInput 0) c.write-no-bytes.ensures
+pub add_front-requires : goal.add_front-requires
+add_front-requires c = front_within (replicate answer_bytes 0) c.write_no-bytes.new.out c.write_no-bytes.result (no_text LongInput 0) c.write_no-bytes.ensures
 
-pub returns-then-input-gt-MOST-BYTES : goal.returns-then-input-gt-MOST-BYTES
-returns-then-input-gt-MOST-BYTES c =
-    let out = c.write-no-bytes.new.out in
-    let n = c.write-no-bytes.result in
-    c.in-ok-add-front.ensures
-    ∙ (λ i. c.new-answers.ensures.items i ++ front (replicate answer_bytes 0) out n (no_text LongInput 0) c.write-no-bytes.ensures i)
-    ∙ too_long c.args.input.now c.if-input-gt-MOST-BYTES.true
+pub returns-then-input-gt-MOST_BYTES : goal.returns-then-input-gt-MOST_BYTES
+returns-then-input-gt-MOST_BYTES c =
+    let out = c.write_no-bytes.new.out in
+    let n = c.write_no-bytes.result in
+    c.in_ok-add_front.ensures
+    ∙ (λ i. c.new-answers.ensures.items i ++ front (replicate answer_bytes 0) out n (no_text LongInput 0) c.write_no-bytes.ensures i)
+    ∙ too_long c.args.input.now c.if-input-gt-MOST_BYTES.true

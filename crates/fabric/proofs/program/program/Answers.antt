@@ -12,9 +12,9 @@ loop-slot-preserved g c =
     let i = c.loop-slot.slot in
     let n = c.loop-slot.written in
     let p = c.args.port in
-    let wrote = c.write-changed-written.ensures in (
+    let wrote = c.write_changed-written.ensures in (
       ap (λ x. (n + x) + changed_slots (drop (i + 1) old) (drop (i + 1) new)) wrote.count ∙ changed_more p old new i (omega arith) (omega arith) n ∙ c.loop-slot.invariant.0,
-      omega (arith, at_most_one (differ (get_or old i empty_slot) (get_or new i empty_slot)) c.write-changed-written.result wrote.count),
+      omega (arith, at_most_one (differ (get_or old i empty_slot) (get_or new i empty_slot)) c.write_changed-written.result wrote.count),
       ap (programmed p (i + 1) (drop (i + 1) old) (drop (i + 1) new)) wrote.after ∙ program_more p old new i (omega arith) (omega arith) (g.B.Bank.ports c.loop-slot.bank) ∙ c.loop-slot.invariant.2,
     )
 

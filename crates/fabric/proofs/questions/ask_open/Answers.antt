@@ -5,15 +5,15 @@ use Rattle.fabric.specs.Declines.{by_bank}
 use Rattle.fabric.proofs.Scans.{each_stop, each_go, each_end}
 use Rattle.fabric.proofs.questions.ask_open.Goals as goal
 
-pub returns-then-not-is-open : goal.returns-then-not-is-open
-returns-then-not-is-open g c =
+pub returns-then-not-is_open : goal.returns-then-not-is_open
+returns-then-not-is_open g c =
     let open? : ℕ → ℕ → Bool = λ k p. (port_at (g.B.Bank.ports c.args.bank.now) p).«open» in
-    ap Err c.by-bank.ensures ∙ each_stop open? (by_bank PortShut) c.args.path.now c.loop-hop.hop 0 (omega arith) (sym c.if-not-is-open.ensures) c.loop-hop.invariant
+    ap Err c.by_bank.ensures ∙ each_stop open? (by_bank PortShut) c.args.path.now c.loop-hop.hop 0 (omega arith) (sym c.if-not-is_open.ensures) c.loop-hop.invariant
 
 pub loop-hop-preserved : goal.loop-hop-preserved
 loop-hop-preserved g c =
     let open? : ℕ → ℕ → Bool = λ k p. (port_at (g.B.Bank.ports c.args.bank.now) p).«open» in
-    each_go open? (by_bank PortShut) c.args.path.now c.loop-hop.hop 0 (omega arith) (sym c.if-not-is-open.ensures) c.loop-hop.invariant
+    each_go open? (by_bank PortShut) c.args.path.now c.loop-hop.hop 0 (omega arith) (sym c.if-not-is_open.ensures) c.loop-hop.invariant
 
 pub returns : goal.returns
 returns g c =

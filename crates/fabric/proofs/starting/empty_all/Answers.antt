@@ -5,8 +5,8 @@ use Rattle.fabric.specs.Starting.{emptied_port}
 use Rattle.fabric.proofs.Emptying.{next_port, emptied_length, port_more, port_all}
 use Rattle.fabric.proofs.starting.empty_all.Goals as goal
 
-pub empty-port-requires : goal.empty-port-requires
-empty-port-requires g c =
+pub empty_port-requires : goal.empty_port-requires
+empty_port-requires g c =
     let ps = g.B.Bank.ports c.args.bank.now in
     let p = c.loop-port.port in
     let below : p < length ps = omega (arith, c.count-port-end.ensures) in
@@ -20,7 +20,7 @@ loop-port-preserved g c =
     let ps = g.B.Bank.ports c.args.bank.now in
     let p = c.loop-port.port in
     let below : p < length ps = omega (arith, c.count-port-end.ensures) in
-    c.empty-port.ensures ∙ ap (λ qs. set qs p (emptied_port (port_at qs p))) c.loop-port.invariant ∙ port_more ps p below
+    c.empty_port.ensures ∙ ap (λ qs. set qs p (emptied_port (port_at qs p))) c.loop-port.invariant ∙ port_more ps p below
 
 pub returns : goal.returns
 returns g c = c.loop-port.invariant ∙ port_all (g.B.Bank.ports c.args.bank.now) c.loop-port.port (omega (arith, c.count-port-end.ensures))

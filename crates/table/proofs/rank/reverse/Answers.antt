@@ -4,8 +4,8 @@ use Rattle.table.specs.Reversal.{reversed, OffsetOfSet, SetOfOffset}
 use Rattle.table.proofs.Reversals.{turn, reversed_none, reversed_below, reversed_twice, offset_of_set, set_of_offset}
 use Rattle.table.proofs.rank.reverse.Goals as goal
 
-pub overflow-mul-out : goal.overflow-mul-out
-overflow-mul-out c = let p : 2 ^ c.loop-i.i ≤ 2 ^ 5 = pow_mono {i = c.loop-i.i} {j = 5} (omega arith) in omega arith
+pub overflow_mul-out : goal.overflow_mul-out
+overflow_mul-out c = let p : 2 ^ c.loop-i.i ≤ 2 ^ 5 = pow_mono {i = c.loop-i.i} {j = 5} (omega arith) in omega arith
 
 pub loop-i-preserved : goal.loop-i-preserved
 loop-i-preserved c =

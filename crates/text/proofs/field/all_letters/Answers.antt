@@ -2,9 +2,9 @@ use Rattle.std.proofs.Common.{sym, ◌∙◌}
 use Rattle.text.proofs.Cuts.{letters_more, letters_not, letters_all}
 use Rattle.text.proofs.field.all_letters.Goals as goal
 
-pub returns-in-default : goal.returns-in-default
-returns-in-default c =
-    sym (letters_not c.args.text.now c.loop-byte.byte-index c.loop-byte-test.true (λ e. c.in-default.not-Letter (c.class-of.ensures ∙ e))) ∙ c.loop-byte.invariant
+pub returns-in_default : goal.returns-in_default
+returns-in_default c =
+    sym (letters_not c.args.text.now c.loop-byte.byte-index c.loop-byte-test.true (λ e. c.in_default.not-Letter (c.class_of.ensures ∙ e))) ∙ c.loop-byte.invariant
 
 pub loop-byte-preserved : goal.loop-byte-preserved
 loop-byte-preserved c =

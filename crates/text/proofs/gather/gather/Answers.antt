@@ -10,11 +10,11 @@ use Rattle.text.proofs.gather.gather.Goals as goal
 
 pub loop-field-preserved : goal.loop-field-preserved
 loop-field-preserved c =
-    turn (items_of c.loop-field.numbers) (items_of c.push.new.self) c.in-Number.value c.in-Number.place (to_come c.loop-field.field-iterator) (to_come c.next.new.self) (kept (numbers_in (to_come c.into-iter-field-iterator.result))) c.loop-field.invariant
+    turn (items_of c.loop-field.numbers) (items_of c.push.new.self) c.in-Number.value c.in-Number.place (to_come c.loop-field.field-iterator) (to_come c.next.new.self) (kept (numbers_in (to_come c.into_iter-field-iterator.result))) c.loop-field.invariant
     (c.in-Some.ensures.steps ∙ ap (λ f. told f ∷ to_come c.next.new.self) c.in-Number.is) c.push.ensures
 
 pub returns : goal.returns
 returns c =
     let long : length (items_of c.loop-field.numbers) ≤ keep = omega (arith, length-take-le c.loop-field.numbers.len c.loop-field.numbers.items (omega arith)) in
-    done (items_of c.loop-field.numbers) (to_come c.loop-field.field-iterator) (kept (numbers_in (to_come c.into-iter-field-iterator.result))) long c.loop-field.invariant c.in-None.ensures.steps.0
-    ∙ ap (λ f. kept (numbers_in (to_come f))) c.into-iter-field-iterator.ensures.into-iter-gives
+    done (items_of c.loop-field.numbers) (to_come c.loop-field.field-iterator) (kept (numbers_in (to_come c.into_iter-field-iterator.result))) long c.loop-field.invariant c.in-None.ensures.steps.0
+    ∙ ap (λ f. kept (numbers_in (to_come f))) c.into_iter-field-iterator.ensures.into_iter_gives

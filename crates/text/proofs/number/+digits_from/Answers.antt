@@ -7,4 +7,4 @@ returns-in-empty t c = digits_none c.args.sum c.args.text.now (search rules)
 
 pub returns-else-next-gt-MOST : goal.returns-else-next-gt-MOST
 returns-else-next-gt-MOST t c =
-    c.digits-from.ensures ∙ digits_more c.args.sum c.args.text.now (search rules) (search rules) c.if-next-gt-MOST.false
+    c.digits_from.ensures ∙ digits_more c.args.sum c.args.text.now (search rules) (search rules) c.if-next-gt-MOST.false

@@ -1,5 +1,5 @@
 use Rattle.std.proofs.Common.{length}
 use Rattle.text.proofs.number.+digits_from.Given as goal
 
-abbrev pub decreases-digits-from : goal.decreases-digits-from
-decreases-digits-from l = length l.text.now
+abbrev pub decreases-digits_from : goal.decreases-digits_from
+decreases-digits_from l = length l.text.now

@@ -7,5 +7,5 @@ use Rattle.text.proofs.parse.read_command.Goals as goal
 pub returns : goal.returns
 returns c =
     c.counted.ensures
-    ∙ ap (by_count (length c.args.line.now) c.in-ok-form.form) c.as-slice.ensures
-    ∙ to_count c.fields-rest.result c.next.new.self c.next.result c.args.line.now c.in-ok-form.form (items_of c.in-ok-numbers.numbers) c.fields-rest.ensures.all c.next.ensures.steps c.in-ok-form.ensures c.in-ok-numbers.ensures
+    ∙ ap (by_count (length c.args.line.now) c.in_ok-form.form) c.as_slice.ensures
+    ∙ to_count c.fields-rest.result c.next.new.self c.next.result c.args.line.now c.in_ok-form.form (items_of c.in_ok-numbers.numbers) c.fields-rest.ensures.all c.next.ensures.steps c.in_ok-form.ensures c.in_ok-numbers.ensures

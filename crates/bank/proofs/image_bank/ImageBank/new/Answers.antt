@@ -12,8 +12,8 @@ use Rattle.bank.proofs.image_bank.ImageBank.new.Goals as goal
 abbrev blank : ImagePort
 blank = record { «open» = true; image = replicate image_bytes 0 }
 
-pub invariant-of-result : goal.invariant-of-result
-invariant-of-result c = (
+pub invariant_of-result : goal.invariant_of-result
+invariant_of-result c = (
   refl,
   (
     omega arith,

@@ -13,8 +13,8 @@ use Rattle.bank.proofs.image_banks.ImageBankBank.shut.Goals as goal
 pub returns-then-port-self : goal.returns-then-port-self
 returns-then-port-self c = search (rules, length-map)
 
-pub invariant-of-self : goal.invariant-of-self
-invariant-of-self c =
+pub invariant_of-self : goal.invariant_of-self
+invariant_of-self c =
     let b = c.args.self.now in
     let p = c.args.port in
     let low : p < most_ports = omega arith in

@@ -19,7 +19,7 @@ returns c =
     let s = c.args.slot in
     let n : length (map port_of b.ports) ≡ length b.ports = length-map b.ports port_of in
     let full : length (image_at b.ports p) ≡ image_bytes = b.full p (omega arith) in
-    c.read-slot.ensures ∙ ⊎_elim
+    c.read_slot.ensures ∙ ⊎_elim
     (λ low. read_means b.ports p (omega arith) s full low (b.lanes p s (omega arith) low) ∙ slot_front b.count (map port_of b.ports) p (omega arith) (omega arith) s low)
     (λ past. read_past (image_at b.ports p) s (omega arith) past ∙ no_slot_front b.count (map port_of b.ports) p (omega arith) (omega arith) s past)
     (cases_lt s slots)

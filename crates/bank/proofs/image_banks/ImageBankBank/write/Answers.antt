@@ -32,8 +32,8 @@ returns-then-not-self-port c =
       after = shut_after b.count ps p (omega arith) (omega arith) c.args.slot (omega arith) c.args.what (omega arith) shut;
     }
 
-pub invariant-of-self : goal.invariant-of-self
-invariant-of-self c =
+pub invariant_of-self : goal.invariant_of-self
+invariant_of-self c =
     let b = c.args.self.now in
     let p = c.args.port in
     let s = c.args.slot in
@@ -44,8 +44,8 @@ invariant-of-self c =
     let long : length (image_at b.ports p) ≡ image_bytes = b.full p low in
     let full = full_means b.ports p (omega arith) long in
     let light : w.weight ≤ most_weight = omega arith in
-    let put = c.put-slot.ensures in
-    let means = sym (means_slot b.ports p (omega arith) s w c.put-slot.new.image put (omega arith)) in (
+    let put = c.put_slot.ensures in
+    let means = sym (means_slot b.ports p (omega arith) s w c.put_slot.new.image put (omega arith)) in (
       simp length-set b.long,
       (
         b.some,
@@ -77,6 +77,6 @@ returns c =
     let opened = ap (λ (q : Port). q.«open») (port_means b.ports p (omega arith)) ∙ c.if-not-self-port.false in
     record {
       answer = put_answer b.count ps p (omega arith) (omega arith) s (omega arith) w (omega arith) opened;
-      after = ap (take b.count) (means_slot b.ports p (omega arith) s w c.put-slot.new.image c.put-slot.ensures (omega arith))
+      after = ap (take b.count) (means_slot b.ports p (omega arith) s w c.put_slot.new.image c.put_slot.ensures (omega arith))
           ∙ put_after b.count ps p (omega arith) (omega arith) s (omega arith) w (omega arith) opened;
     }

@@ -10,10 +10,10 @@ use Rattle.bank.proofs.record.RecordBank.new.Goals as goal
 each_new : (P : Port → Type 0) (q : Port) → q ≡ new_port → P new_port → (p : ℕ) → p < most_ports → P (get_or (replicate most_ports q) p no_port)
 each_new P q is new = each_replicate P no_port q most_ports (subst P (sym is) new)
 
-pub invariant-of-result : goal.invariant-of-result
-invariant-of-result c =
-    let q : Port = c.new-port.result in
-    let is : q ≡ new_port = c.new-port.ensures in (
+pub invariant_of-result : goal.invariant_of-result
+invariant_of-result c =
+    let q : Port = c.new_port.result in
+    let is : q ≡ new_port = c.new_port.ensures in (
       refl,
       (
         omega arith,
@@ -35,5 +35,5 @@ invariant-of-result c =
 
 pub returns : goal.returns
 returns c =
-    take_replicate c.new-port.result c.min.result most_ports (omega arith)
-    ∙ (λ i. replicate ((c.min.ensures ∙ ap (λ m. min m most_ports) c.max.ensures) i) (c.new-port.ensures i))
+    take_replicate c.new_port.result c.min.result most_ports (omega arith)
+    ∙ (λ i. replicate ((c.min.ensures ∙ ap (λ m. min m most_ports) c.max.ensures) i) (c.new_port.ensures i))

@@ -14,8 +14,8 @@ returns-then-not-self-port c =
       after = shut_after b.count b.ports c.args.port (omega arith) (omega arith) c.args.slot (omega arith) c.args.what (omega arith) c.if-not-self-port.true;
     }
 
-pub invariant-of-self : goal.invariant-of-self
-invariant-of-self c =
+pub invariant_of-self : goal.invariant_of-self
+invariant_of-self c =
     let b = c.args.self.now in
     let p = c.args.port in
     let s = c.args.slot in

@@ -20,24 +20,24 @@ pub bounds-self-first : goal.bounds-self-first
 bounds-self-first c = below c.args.self.now.ranks c.args.session c.in-Some.first c.in-Some.ensures
 
 -- the set's ranks are held now
-added : (c : goal.After-ranks-from) → c.args.self.now.held + c.ranks-from.result ≡ held_bits bits (set c.args.self.now.ranks c.in-Some.first (Some c.args.session))
+added : (c : goal.After-ranks_from) → c.args.self.now.held + c.ranks_from.result ≡ held_bits bits (set c.args.self.now.ranks c.in-Some.first (Some c.args.session))
 added c =
     let b = c.args.self.now in
-    taken_bits bits b.ranks c.args.session c.in-Some.first b.held c.ranks-from.result (place_found bits b.ranks c.args.session c.in-Some.first c.in-Some.ensures) (book_stands b) b.taken c.ranks-from.ensures
+    taken_bits bits b.ranks c.args.session c.in-Some.first b.held c.ranks_from.result (place_found bits b.ranks c.args.session c.in-Some.first c.in-Some.ensures) (book_stands b) b.taken c.ranks_from.ensures
 
-pub place-for-requires : goal.place-for-requires
-place-for-requires c = record { top = omega arith; bits = c.args.self.now.taken }
+pub place_for-requires : goal.place_for-requires
+place_for-requires c = record { top = omega arith; bits = c.args.self.now.taken }
 
-pub ranks-from-requires : goal.ranks-from-requires
-ranks-from-requires c =
+pub ranks_from-requires : goal.ranks_from-requires
+ranks_from-requires c =
     let p = place_found bits c.args.self.now.ranks c.args.session c.in-Some.first c.in-Some.ensures in
-    omega (arith, p.first, p.inside, p.size-is, pow_pos p.level)
+    omega (arith, p.first, p.inside, p.size_is, pow_pos p.level)
 
-pub overflow-add-self : goal.overflow-add-self
-overflow-add-self c = omega (arith, added c, held_fits bits (set c.args.self.now.ranks c.in-Some.first (Some c.args.session)) (omega arith))
+pub overflow_add-self : goal.overflow_add-self
+overflow_add-self c = omega (arith, added c, held_fits bits (set c.args.self.now.ranks c.in-Some.first (Some c.args.session)) (omega arith))
 
-pub invariant-of-self : goal.invariant-of-self
-invariant-of-self c =
+pub invariant_of-self : goal.invariant_of-self
+invariant_of-self c =
     let b = c.args.self.now in
     let s = c.args.session in
     let f = c.in-Some.first in

@@ -10,5 +10,5 @@ pub returns : goal.returns
 returns c =
     let b = c.args.self.now in
     let goal = c.args.need in
-    let e = ap (leb goal) (free_ranks_is bits b.ranks b.held b.taken c.free-ranks.result c.free-ranks.ensures) in
+    let e = ap (leb goal) (free_ranks_is bits b.ranks b.held b.taken c.free_ranks.result c.free_ranks.ensures) in
     record { value = e; even = subst (RoomLaw bits b.ranks goal) (sym e) (room_law bits b.ranks goal (book_stands b)) }

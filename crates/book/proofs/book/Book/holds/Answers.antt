@@ -11,4 +11,4 @@ returns-then-self-eq0 c =
     none_held bits c.args.number b.ranks (book_stands b) (sym c.if-self-eq0.true ∙ b.taken)
 
 pub returns : goal.returns
-returns c = c.is-some.ensures ∙ ap is_some c.find.ensures ∙ place_holds c.args.number c.args.self.now.ranks
+returns c = c.is_some.ensures ∙ ap is_some c.find.ensures ∙ place_holds c.args.number c.args.self.now.ranks

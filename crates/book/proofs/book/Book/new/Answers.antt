@@ -6,7 +6,7 @@ use Rattle.book.proofs.Held.{empty_bits}
 use Rattle.book.proofs.Keeping.{empty_stands}
 use Rattle.book.proofs.book.Book.new.Goals as goal
 
-pub invariant-of-result : goal.invariant-of-result
-invariant-of-result c =
+pub invariant_of-result : goal.invariant_of-result
+invariant_of-result c =
     let t = tested bits (empty_ranks bits) (empty_stands bits) in
     (t.long, (t.fit, (t.sets, (t.apart, (t.once, (t.ordered, (sym (empty_bits bits), tt)))))))

@@ -8,24 +8,24 @@ use Rattle.book.proofs.Tested.{tested}
 use Rattle.book.proofs.Keeping.{book_stands, number_found, released_at_lem, released_none, released_stands, release_law}
 use Rattle.book.proofs.book.Book.release.Goals as goal
 
-pub release-at-held-requires : goal.release-at-held-requires
-release-at-held-requires c =
+pub release_at-held-requires : goal.release_at-held-requires
+release_at-held-requires c =
     let b = c.args.self.now in
     record { top = omega arith; stands = book_stands b; bits = b.taken; there = (number_found c.args.number b.ranks c.in-Some.first c.in-Some.ensures).3 }
 
-pub invariant-of-self : goal.invariant-of-self
-invariant-of-self c =
+pub invariant_of-self : goal.invariant_of-self
+invariant_of-self c =
     let b = c.args.self.now in
-    let after = c.release-at-held.ensures.after ∙ released_at_lem bits b.ranks c.args.number c.in-Some.first c.in-Some.ensures in
-    let t = tested bits c.release-at-held.new.book (subst (Standing bits) (sym after) (released_stands bits b.ranks c.args.number (book_stands b))) in
-    (t.long, (t.fit, (t.sets, (t.apart, (t.once, (t.ordered, (c.release-at-held.ensures.bits, tt)))))))
+    let after = c.release_at-held.ensures.after ∙ released_at_lem bits b.ranks c.args.number c.in-Some.first c.in-Some.ensures in
+    let t = tested bits c.release_at-held.new.book (subst (Standing bits) (sym after) (released_stands bits b.ranks c.args.number (book_stands b))) in
+    (t.long, (t.fit, (t.sets, (t.apart, (t.once, (t.ordered, (c.release_at-held.ensures.bits, tt)))))))
 
 pub returns-in-Some : goal.returns-in-Some
 returns-in-Some c =
     let b = c.args.self.now in
     let number = c.args.number in
     let place = c.in-Some.ensures in
-    let after = c.release-at-held.ensures.after ∙ released_at_lem bits b.ranks number c.in-Some.first place in
+    let after = c.release_at-held.ensures.after ∙ released_at_lem bits b.ranks number c.in-Some.first place in
     record {
       value = ap is_some place ∙ place_holds number b.ranks;
       after = after;

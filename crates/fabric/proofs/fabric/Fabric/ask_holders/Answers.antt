@@ -6,17 +6,17 @@ use Rattle.fabric.specs.Releasing.{free_or_open}
 use Rattle.fabric.proofs.Scans.{each_stop, each_go, each_end}
 use Rattle.fabric.proofs.fabric.Fabric.ask_holders.Goals as goal
 
-pub returns-then-not-free-or-open : goal.returns-then-not-free-or-open
-returns-then-not-free-or-open g c =
-    ap Err c.by-bank.ensures ∙ each_stop (free_or_open c.args.number (g.B.Bank.ports c.args.bank.now)) (by_bank PortShut) (map entries c.args.self.now.books) c.loop-port.port []
-    (omega (arith, c.book-count-port-end.ensures.all, c.book-count-port-end.ensures.value)) (sym c.if-not-free-or-open.ensures) c.loop-port.invariant
+pub returns-then-not-free_or_open : goal.returns-then-not-free_or_open
+returns-then-not-free_or_open g c =
+    ap Err c.by_bank.ensures ∙ each_stop (free_or_open c.args.number (g.B.Bank.ports c.args.bank.now)) (by_bank PortShut) (map entries c.args.self.now.books) c.loop-port.port []
+    (omega (arith, c.book_count-port-end.ensures.all, c.book_count-port-end.ensures.value)) (sym c.if-not-free_or_open.ensures) c.loop-port.invariant
 
 pub loop-port-preserved : goal.loop-port-preserved
 loop-port-preserved g c =
     each_go (free_or_open c.args.number (g.B.Bank.ports c.args.bank.now)) (by_bank PortShut) (map entries c.args.self.now.books) c.loop-port.port []
-    (omega (arith, c.book-count-port-end.ensures.all, c.book-count-port-end.ensures.value)) (sym c.if-not-free-or-open.ensures) c.loop-port.invariant
+    (omega (arith, c.book_count-port-end.ensures.all, c.book_count-port-end.ensures.value)) (sym c.if-not-free_or_open.ensures) c.loop-port.invariant
 
 pub returns : goal.returns
 returns g c =
     each_end (free_or_open c.args.number (g.B.Bank.ports c.args.bank.now)) (by_bank PortShut) (map entries c.args.self.now.books) c.loop-port.port
-    (omega (arith, c.book-count-port-end.ensures.all, c.book-count-port-end.ensures.value)) c.loop-port.invariant
+    (omega (arith, c.book_count-port-end.ensures.all, c.book_count-port-end.ensures.value)) c.loop-port.invariant

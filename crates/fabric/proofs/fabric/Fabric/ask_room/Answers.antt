@@ -11,13 +11,13 @@ use Rattle.fabric.proofs.fabric.Fabric.ask_room.Goals as goal
 abbrev room? : ℕ → List Book → ℕ → ℕ → Bool
 room? size books k p = leb size (free_ranks bits (book_at (map entries books) p))
 
-pub returns-then-not-room-at : goal.returns-then-not-room-at
-returns-then-not-room-at c =
-    ap Err c.by-fabric.ensures ∙ each_stop (room? c.args.need c.args.self.now.books) (by_fabric NoRoom) c.args.path.now c.loop-hop.hop 0 (omega arith) (sym c.if-not-room-at.ensures) c.loop-hop.invariant
+pub returns-then-not-room_at : goal.returns-then-not-room_at
+returns-then-not-room_at c =
+    ap Err c.by_fabric.ensures ∙ each_stop (room? c.args.need c.args.self.now.books) (by_fabric NoRoom) c.args.path.now c.loop-hop.hop 0 (omega arith) (sym c.if-not-room_at.ensures) c.loop-hop.invariant
 
 pub loop-hop-preserved : goal.loop-hop-preserved
 loop-hop-preserved c =
-    each_go (room? c.args.need c.args.self.now.books) (by_fabric NoRoom) c.args.path.now c.loop-hop.hop 0 (omega arith) (sym c.if-not-room-at.ensures) c.loop-hop.invariant
+    each_go (room? c.args.need c.args.self.now.books) (by_fabric NoRoom) c.args.path.now c.loop-hop.hop 0 (omega arith) (sym c.if-not-room_at.ensures) c.loop-hop.invariant
 
 pub returns : goal.returns
 returns c = each_end (room? c.args.need c.args.self.now.books) (by_fabric NoRoom) c.args.path.now c.loop-hop.hop (omega arith) c.loop-hop.invariant

@@ -11,10 +11,10 @@ pub returns : goal.returns
 returns g c =
     let s = meaning c.args.self.now in
     record {
-      meets = changed_at_lem (changed_by c.args.change) c.args.port c.program.result s (meaning c.change-book.new.self)
-          (g.B.Bank.ports c.args.bank.now) (g.B.Bank.ports c.program.new.bank) c.contents-at-old.result c.contents-at-new.result
-          c.contents-at-old.ensures.value c.change-book.ensures
-          (c.contents-at-new.ensures.value ∙ ap (contents bits) (book_after s (meaning c.change-book.new.self) c.args.port (changed_by c.args.change (book_at s.books c.args.port)) c.contents-at-old.ensures.there c.change-book.ensures))
+      meets = changed_at_lem (changed_by c.args.change) c.args.port c.program.result s (meaning c.change_book.new.self)
+          (g.B.Bank.ports c.args.bank.now) (g.B.Bank.ports c.program.new.bank) c.contents_at-old.result c.contents_at-new.result
+          c.contents_at-old.ensures.value c.change_book.ensures
+          (c.contents_at-new.ensures.value ∙ ap (contents bits) (book_after s (meaning c.change_book.new.self) c.args.port (changed_by c.args.change (book_at s.books c.args.port)) c.contents_at-old.ensures.there c.change_book.ensures))
           c.program.ensures.count c.program.ensures.after;
       most = c.program.ensures.most;
     }

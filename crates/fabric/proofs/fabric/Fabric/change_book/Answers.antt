@@ -10,8 +10,8 @@ pub returns-in-FillIn : goal.returns-in-FillIn
 returns-in-FillIn c =
     let f = c.args.self.now in
     ap (λ (bs : List Ranks). let s : State = record { started = f.started; books = bs; pointers = f.pointers } in s)
-    (book_change (changed_by c.args.change) f.books c.args.port c.index-self-port.result c.fill-in.new.self (omega arith)
-    (c.fill-in.ensures.after ∙ ap (λ (x : BookChange). changed_by x (get_or f.books c.args.port c.index-self-port.result).ranks) (sym c.in-FillIn.is)))
+    (book_change (changed_by c.args.change) f.books c.args.port c.index-self-port.result c.fill_in.new.self (omega arith)
+    (c.fill_in.ensures.after ∙ ap (λ (x : BookChange). changed_by x (get_or f.books c.args.port c.index-self-port.result).ranks) (sym c.in-FillIn.is)))
 
 pub returns-in-Release : goal.returns-in-Release
 returns-in-Release c =

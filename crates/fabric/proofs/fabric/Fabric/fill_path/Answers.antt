@@ -8,11 +8,11 @@ use Rattle.fabric.proofs.fabric.Fabric.fill_path.Goals as goal
 
 pub loop-hop-preserved : goal.loop-hop-preserved
 loop-hop-preserved g c = (
-  along_more (λ b. filled bits b c.args.session) c.args.path.now c.loop-hop.hop c.loop-hop.slots c.change-at-slots.result
-      (meaning c.loop-hop.self) (meaning c.change-at-slots.new.self) (g.B.Bank.ports c.loop-hop.bank) (g.B.Bank.ports c.change-at-slots.new.bank)
-      (omega arith) c.change-at-slots.ensures.meets
+  along_more (λ b. filled bits b c.args.session) c.args.path.now c.loop-hop.hop c.loop-hop.slots c.change_at-slots.result
+      (meaning c.loop-hop.self) (meaning c.change_at-slots.new.self) (g.B.Bank.ports c.loop-hop.bank) (g.B.Bank.ports c.change_at-slots.new.bank)
+      (omega arith) c.change_at-slots.ensures.meets
       ∙ c.loop-hop.invariant.0,
-  omega (arith, c.change-at-slots.ensures.most),
+  omega (arith, c.change_at-slots.ensures.most),
 )
 
 pub returns : goal.returns

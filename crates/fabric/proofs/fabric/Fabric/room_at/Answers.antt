@@ -5,4 +5,4 @@ use Rattle.fabric.proofs.Books.{book_at_lem}
 use Rattle.fabric.proofs.fabric.Fabric.room_at.Goals as goal
 
 pub returns : goal.returns
-returns c = c.has-room.ensures.value ∙ ap (λ (b : Ranks). leb c.args.need (free_ranks bits b)) (sym (book_at_lem c.args.self.now.books c.args.port c.index-self-port.result (omega arith)))
+returns c = c.has_room.ensures.value ∙ ap (λ (b : Ranks). leb c.args.need (free_ranks bits b)) (sym (book_at_lem c.args.self.now.books c.args.port c.index-self-port.result (omega arith)))

@@ -11,8 +11,8 @@ pub returns-in-Some : goal.returns-in-Some
 returns-in-Some c =
     let bs : List ℕ = c.args.self.now.bytes.now in
     let next : List ℕ = c.args.self.now.next in
-    first_answer_lem (map (waiting bs next) (range_with_len 0 lane_count)) c.args.lane (omega arith) (Some c.length-of.result)
-    (ap Some c.length-of.ensures ∙ sym (ap first_of (queue_waiting bs next c.args.lane (omega arith) ∙ c.in-Some.ensures.1)))
+    first_answer_lem (map (waiting bs next) (range_with_len 0 lane_count)) c.args.lane (omega arith) (Some c.length_of.result)
+    (ap Some c.length_of.ensures ∙ sym (ap first_of (queue_waiting bs next c.args.lane (omega arith) ∙ c.in-Some.ensures.1)))
 
 pub returns-in-None : goal.returns-in-None
 returns-in-None c =

@@ -16,7 +16,7 @@ returns-in-Some c =
     let qs : List (List ℕ) = map (waiting bs next) (range_with_len 0 lane_count) in
     let is = queue_waiting bs next lane (omega arith) ∙ c.in-Some.ensures.1 in
     record {
-      answer = take_answer_lem qs lane (omega arith) c.length-of.result (ap Some c.length-of.ensures ∙ sym (ap first_of is));
+      answer = take_answer_lem qs lane (omega arith) c.length_of.result (ap Some c.length_of.ensures ∙ sym (ap first_of is));
       after = come_to bs next lane (c.in-Some.k + 1) s.long (omega arith) ∙ take_after qs lane (omega arith) (packets_from bs (c.in-Some.k + 1) lane) (sym (ap rest is));
     }
 

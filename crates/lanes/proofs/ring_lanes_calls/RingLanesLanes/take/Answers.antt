@@ -6,8 +6,8 @@ use Rattle.lanes.specs.Packets.{packets_rest, take_answer_lem, take_after, none_
 use Rattle.lanes.specs.Held.{queue_of, wide_set, within_set, room_set, packets_set}
 use Rattle.lanes.proofs.ring_lanes_calls.RingLanesLanes.take.Goals as goal
 
-pub invariant-of-self : goal.invariant-of-self
-invariant-of-self c =
+pub invariant_of-self : goal.invariant_of-self
+invariant_of-self c =
     let s = c.args.self.now in
     let k = c.args.lane in
     let l = c.behind.result in

@@ -10,9 +10,9 @@ pub returns : goal.returns
 returns c =
     let f : Fields = c.args.self.now in
     let g : Fields = c.if-n-rest.self in
-    let n : ℕ = c.blank-after-n.result in
+    let n : ℕ = c.blank_after-n.result in
     let rest : List ℕ = take (length f.line.now - f.at) (drop f.at f.line.now) in
     record {
-      steps = elim c.if-n-rest.branch [ then-n-rest w ↦ step_more f g (told c.read-field.result) n rest c.if-not-self.false (take_rest f.line.now f.at) c.blank-after-n.ensures.value w.if-n-rest.true c.read-field.ensures (ap (λ (x : Fields). x.line.now) w.self-is) (ap (λ (x : Fields). x.at) w.self-is) (ap (λ (x : Fields). x.«open») w.self-is ∙ c.if-not-self.false) | else-n-rest w ↦ step_last f g (told c.read-field.result) n rest c.if-not-self.false (take_rest f.line.now f.at) c.blank-after-n.ensures.value c.blank-after-n.ensures.within w.if-n-rest.false c.read-field.ensures (ap (λ (x : Fields). x.«open») w.self-is) ];
+      steps = elim c.if-n-rest.branch [ then-n-rest w ↦ step_more f g (told c.read_field.result) n rest c.if-not-self.false (take_rest f.line.now f.at) c.blank_after-n.ensures.value w.if-n-rest.true c.read_field.ensures (ap (λ (x : Fields). x.line.now) w.self-is) (ap (λ (x : Fields). x.at) w.self-is) (ap (λ (x : Fields). x.«open») w.self-is ∙ c.if-not-self.false) | else-n-rest w ↦ step_last f g (told c.read_field.result) n rest c.if-not-self.false (take_rest f.line.now f.at) c.blank_after-n.ensures.value c.blank_after-n.ensures.within w.if-n-rest.false c.read_field.ensures (ap (λ (x : Fields). x.«open») w.self-is) ];
       goes = search rules;
     }
