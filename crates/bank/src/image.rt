@@ -15,9 +15,9 @@ pub const IMAGE_BYTES: usize = 128;
 
 // Writes the image of a port's table to the front of `out`.
 pub fn write_image<B: Bank>(bank: &B, port: usize, out: &mut [u8]) -> Result<(), Refusal>
-    ensures answer { result ≡ image_answer (ports bank.now) port (length out.old) }
-    ensures after { out.new ≡ image_after (ports bank.now) port out.old }
-    ensures trip { result ≡ Ok tt → ReadsBack (ports bank.now) port out.new }
+    ensures answer { result ≡ image_answer (B.ports bank.now) port (length out.old) }
+    ensures after { out.new ≡ image_after (B.ports bank.now) port out.old }
+    ensures trip { result ≡ Ok tt → ReadsBack (B.ports bank.now) port out.new }
 {
     if port >= bank.count() {
         return Err(refused(Reason::NoSuchPort));
@@ -58,8 +58,8 @@ pub fn read_slot(image: &[u8], slot: usize) -> Result<Slot, Refusal>
 
 // A slot that the bank has.
 fn slot_at<B: Bank>(bank: &B, port: usize, slot: usize) -> Slot
-    requires { (port < length (ports bank.now)) × (slot < slots) }
-    ensures { result ≡ slot_at (ports bank.now) port slot }
+    requires { (port < length (B.ports bank.now)) × (slot < slots) }
+    ensures { result ≡ slot_at (B.ports bank.now) port slot }
 {
     match bank.slot(port, slot) {
         Ok(what) => what,

@@ -13,25 +13,15 @@ abbrev blank : ImagePort
 blank = record { «open» = true; image = replicate image_bytes 0 }
 
 pub invariant_of-result : goal.invariant_of-result
-invariant_of-result c = (
-  refl,
-  (
-    omega arith,
-    (
-      omega arith,
-      (
-        each_replicate (λ q. length q.image ≡ image_bytes) no_image blank most_ports refl,
-        (
-          (λ p s h l. each_replicate (λ (q : Port). (get_or q.slots s empty_slot).lane < lane_count) no_port new_port most_ports (each_replicate (λ (z : Slot). z.lane < lane_count) empty_slot empty_slot slots (omega arith) s l) p h),
-          (
-            (λ p s h l. each_replicate (λ (q : Port). (get_or q.slots s empty_slot).weight ≤ most_weight) no_port new_port most_ports (each_replicate (λ (z : Slot). z.weight ≤ most_weight) empty_slot empty_slot slots (omega arith) s l) p h),
-            tt,
-          ),
-        ),
-      ),
-    ),
-  ),
-)
+invariant_of-result c =
+    record {
+      long = refl;
+      some = omega arith;
+      most = omega arith;
+      full = each_replicate (λ q. length q.image ≡ image_bytes) no_image blank most_ports refl;
+      lanes = (λ p s h l. each_replicate (λ (q : Port). (get_or q.slots s empty_slot).lane < lane_count) no_port new_port most_ports (each_replicate (λ (z : Slot). z.lane < lane_count) empty_slot empty_slot slots (omega arith) s l) p h);
+      weights = (λ p s h l. each_replicate (λ (q : Port). (get_or q.slots s empty_slot).weight ≤ most_weight) no_port new_port most_ports (each_replicate (λ (z : Slot). z.weight ≤ most_weight) empty_slot empty_slot slots (omega arith) s l) p h);
+    }
 
 pub returns : goal.returns
 returns c =

@@ -19,25 +19,15 @@ invariant_of-self c =
     let p = c.args.port in
     let low : p < most_ports = omega arith in
     let n : length (map port_of b.ports) ≡ length b.ports = length-map b.ports port_of in
-    let means = sym (means_state b.ports p (omega arith) true) in (
-      simp length-set b.long,
-      (
-        b.some,
-        (
-          b.most,
-          (
-            each_set (λ q. length q.image ≡ image_bytes) no_image b.ports p _ most_ports (omega arith) b.full (b.full p low),
-            (
-              subst (EachSlot (λ x. x.lane < lane_count) most_ports) means (each_slot_state (λ x. x.lane < lane_count) most_ports (map port_of b.ports) p (omega arith) low b.lanes true),
-              (
-                subst (EachSlot (λ x. x.weight ≤ most_weight) most_ports) means (each_slot_state (λ x. x.weight ≤ most_weight) most_ports (map port_of b.ports) p (omega arith) low b.weights true),
-                tt,
-              ),
-            ),
-          ),
-        ),
-      ),
-    )
+    let means = sym (means_state b.ports p (omega arith) true) in
+    record {
+      long = simp length-set b.long;
+      some = b.some;
+      most = b.most;
+      full = each_set (λ q. length q.image ≡ image_bytes) no_image b.ports p _ most_ports (omega arith) b.full (b.full p low);
+      lanes = subst (EachSlot (λ x. x.lane < lane_count) most_ports) means (each_slot_state (λ x. x.lane < lane_count) most_ports (map port_of b.ports) p (omega arith) low b.lanes true);
+      weights = subst (EachSlot (λ x. x.weight ≤ most_weight) most_ports) means (each_slot_state (λ x. x.weight ≤ most_weight) most_ports (map port_of b.ports) p (omega arith) low b.weights true);
+    }
 
 pub returns : goal.returns
 returns c =

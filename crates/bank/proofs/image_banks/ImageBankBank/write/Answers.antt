@@ -45,25 +45,15 @@ invariant_of-self c =
     let full = full_means b.ports p (omega arith) long in
     let light : w.weight ≤ most_weight = omega arith in
     let put = c.put_slot.ensures in
-    let means = sym (means_slot b.ports p (omega arith) s w c.put_slot.new.image put (omega arith)) in (
-      simp length-set b.long,
-      (
-        b.some,
-        (
-          b.most,
-          (
-            each_set (λ q. length q.image ≡ image_bytes) no_image b.ports p _ most_ports (omega arith) b.full (ap length put ∙ simp length-set long),
-            (
-              subst (EachSlot (λ x. x.lane < lane_count) most_ports) means (each_slot_write (λ x. x.lane < lane_count) most_ports ps p (omega arith) low b.lanes s w full (omega arith)),
-              (
-                subst (EachSlot (λ x. x.weight ≤ most_weight) most_ports) means (each_slot_write (λ x. x.weight ≤ most_weight) most_ports ps p (omega arith) low b.weights s w full light),
-                tt,
-              ),
-            ),
-          ),
-        ),
-      ),
-    )
+    let means = sym (means_slot b.ports p (omega arith) s w c.put_slot.new.image put (omega arith)) in
+    record {
+      long = simp length-set b.long;
+      some = b.some;
+      most = b.most;
+      full = each_set (λ q. length q.image ≡ image_bytes) no_image b.ports p _ most_ports (omega arith) b.full (ap length put ∙ simp length-set long);
+      lanes = subst (EachSlot (λ x. x.lane < lane_count) most_ports) means (each_slot_write (λ x. x.lane < lane_count) most_ports ps p (omega arith) low b.lanes s w full (omega arith));
+      weights = subst (EachSlot (λ x. x.weight ≤ most_weight) most_ports) means (each_slot_write (λ x. x.weight ≤ most_weight) most_ports ps p (omega arith) low b.weights s w full light);
+    }
 
 pub returns : goal.returns
 returns c =

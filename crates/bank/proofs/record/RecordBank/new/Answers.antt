@@ -13,25 +13,15 @@ each_new P q is new = each_replicate P no_port q most_ports (subst P (sym is) ne
 pub invariant_of-result : goal.invariant_of-result
 invariant_of-result c =
     let q : Port = c.new_port.result in
-    let is : q ≡ new_port = c.new_port.ensures in (
-      refl,
-      (
-        omega arith,
-        (
-          omega arith,
-          (
-            each_new (λ q. length q.slots ≡ slots) q is refl,
-            (
-              (λ p s h l. each_new (λ q. (get_or q.slots s empty_slot).lane < lane_count) q is (each_replicate (λ (z : Slot). z.lane < lane_count) empty_slot empty_slot slots (omega arith) s l) p h),
-              (
-                (λ p s h l. each_new (λ q. (get_or q.slots s empty_slot).weight ≤ most_weight) q is (each_replicate (λ (z : Slot). z.weight ≤ most_weight) empty_slot empty_slot slots (omega arith) s l) p h),
-                tt,
-              ),
-            ),
-          ),
-        ),
-      ),
-    )
+    let is : q ≡ new_port = c.new_port.ensures in
+    record {
+      long = refl;
+      some = omega arith;
+      most = omega arith;
+      full = each_new (λ q. length q.slots ≡ slots) q is refl;
+      lanes = (λ p s h l. each_new (λ q. (get_or q.slots s empty_slot).lane < lane_count) q is (each_replicate (λ (z : Slot). z.lane < lane_count) empty_slot empty_slot slots (omega arith) s l) p h);
+      weights = (λ p s h l. each_new (λ q. (get_or q.slots s empty_slot).weight ≤ most_weight) q is (each_replicate (λ (z : Slot). z.weight ≤ most_weight) empty_slot empty_slot slots (omega arith) s l) p h);
+    }
 
 pub returns : goal.returns
 returns c =

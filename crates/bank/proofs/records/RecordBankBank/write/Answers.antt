@@ -22,25 +22,15 @@ invariant_of-self c =
     let w = c.args.what in
     let low : p < most_ports = omega arith in
     let full : length (port_at b.ports p).slots ≡ slots = b.full p low in
-    let light : w.weight ≤ most_weight = omega arith in (
-      simp length-set b.long,
-      (
-        b.some,
-        (
-          b.most,
-          (
-            each_set (λ q. length q.slots ≡ slots) no_port b.ports p _ most_ports (omega arith) b.full (simp length-set full),
-            (
-              each_slot_write (λ x. x.lane < lane_count) most_ports b.ports p (omega arith) low b.lanes s w full (omega arith),
-              (
-                each_slot_write (λ x. x.weight ≤ most_weight) most_ports b.ports p (omega arith) low b.weights s w full light,
-                tt,
-              ),
-            ),
-          ),
-        ),
-      ),
-    )
+    let light : w.weight ≤ most_weight = omega arith in
+    record {
+      long = simp length-set b.long;
+      some = b.some;
+      most = b.most;
+      full = each_set (λ q. length q.slots ≡ slots) no_port b.ports p _ most_ports (omega arith) b.full (simp length-set full);
+      lanes = each_slot_write (λ x. x.lane < lane_count) most_ports b.ports p (omega arith) low b.lanes s w full (omega arith);
+      weights = each_slot_write (λ x. x.weight ≤ most_weight) most_ports b.ports p (omega arith) low b.weights s w full light;
+    }
 
 pub returns : goal.returns
 returns c =
