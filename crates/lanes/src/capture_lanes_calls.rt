@@ -1,6 +1,7 @@
 ghost use Rattle.std.specs.Prelude.{◌≡◌};
 ghost use Rattle.lanes.specs.Captures.{captured};
 ghost use Rattle.lanes.specs.CaptureQueues.{capture_queues};
+ghost use Rattle.lanes.specs.Records.{captures_fit};
 
 use crate::capture::{find, length_of};
 use crate::capture_lanes::CaptureLanes;
@@ -22,6 +23,8 @@ impl<'a> CaptureLanes<'a> {
 
 impl<'a> Lanes for CaptureLanes<'a> {
     ghost queues = { capture_queues };
+
+    ghost fits = { λ l. captures_fit l.bytes.now l.next };
 
     fn first(&self, lane: u8) -> Result<Option<u16>, Refusal> {
         if lane >= LANES {

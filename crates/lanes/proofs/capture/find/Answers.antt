@@ -1,5 +1,5 @@
 use Rattle.std.proofs.Common.{sym, ◌∙◌, arith}
-use Rattle.lanes.proofs.Records.{passed_over, found, at_end}
+use Rattle.lanes.specs.Records.{passed_over, found, at_end}
 use Rattle.lanes.proofs.capture.find.Goals as goal
 
 pub returns-then-is_for : goal.returns-then-is_for

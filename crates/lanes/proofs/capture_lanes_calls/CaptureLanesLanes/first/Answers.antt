@@ -4,7 +4,7 @@ use Rattle.table.specs.Slots.{lane_count}
 use Rattle.lanes.specs.Queues.{first_of}
 use Rattle.lanes.specs.Captures.{waiting}
 use Rattle.lanes.specs.Packets.{first_answer_lem}
-use Rattle.lanes.proofs.Records.{queue_waiting}
+use Rattle.lanes.specs.Records.{queue_waiting}
 use Rattle.lanes.proofs.capture_lanes_calls.CaptureLanesLanes.first.Goals as goal
 
 pub returns-in-Some : goal.returns-in-Some

@@ -4,7 +4,7 @@ use Rattle.table.specs.Slots.{lane_count}
 use Rattle.lanes.specs.Queues.{first_of, rest}
 use Rattle.lanes.specs.Captures.{waiting, packets_from}
 use Rattle.lanes.specs.Packets.{take_answer_lem, take_after, none_answer, none_after}
-use Rattle.lanes.proofs.Records.{queue_waiting, come_to}
+use Rattle.lanes.specs.Records.{queue_waiting, come_to}
 use Rattle.lanes.proofs.capture_lanes_calls.CaptureLanesLanes.take.Goals as goal
 
 pub returns-in-Some : goal.returns-in-Some

@@ -25,22 +25,14 @@ invariant_of-self c =
     let l = c.joined.result in
     let o : Orderly l = c.joined.ensures.orderly in
     let new : all_packets (held l) ≡ true =
-    ap all_packets c.joined.ensures.after ∙ packets_push (held (lane_at s.lanes k)) b (s.packets k (omega arith)) (sym c.is_packet.ensures ∙ c.if-not-is_packet.false) in (
-      simp length-set s.long,
-      (
-        wide_set s.lanes k l s.long o s.wide,
-        (
-          within_set s.lanes k l s.long o s.within,
-          (
-            room_set s.lanes k l s.long o s.room,
-            (
-              packets_set s.lanes k l s.long o s.packets new,
-              tt,
-            ),
-          ),
-        ),
-      ),
-    )
+    ap all_packets c.joined.ensures.after ∙ packets_push (held (lane_at s.lanes k)) b (s.packets k (omega arith)) (sym c.is_packet.ensures ∙ c.if-not-is_packet.false) in
+    record {
+      long = simp length-set s.long;
+      wide = wide_set s.lanes k l s.long o s.wide;
+      within = within_set s.lanes k l s.long o s.within;
+      room = room_set s.lanes k l s.long o s.room;
+      packets = packets_set s.lanes k l s.long o s.packets new;
+    }
 
 pub returns : goal.returns
 returns c =

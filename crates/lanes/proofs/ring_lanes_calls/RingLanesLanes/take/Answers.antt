@@ -12,22 +12,14 @@ invariant_of-self c =
     let k = c.args.lane in
     let l = c.behind.result in
     let o : Orderly l = c.behind.ensures.orderly in
-    let new : all_packets (held l) ≡ true = ap all_packets c.behind.ensures.after ∙ packets_rest (held (lane_at s.lanes k)) (s.packets k (omega arith)) in (
-      simp length-set s.long,
-      (
-        wide_set s.lanes k l s.long o s.wide,
-        (
-          within_set s.lanes k l s.long o s.within,
-          (
-            room_set s.lanes k l s.long o s.room,
-            (
-              packets_set s.lanes k l s.long o s.packets new,
-              tt,
-            ),
-          ),
-        ),
-      ),
-    )
+    let new : all_packets (held l) ≡ true = ap all_packets c.behind.ensures.after ∙ packets_rest (held (lane_at s.lanes k)) (s.packets k (omega arith)) in
+    record {
+      long = simp length-set s.long;
+      wide = wide_set s.lanes k l s.long o s.wide;
+      within = within_set s.lanes k l s.long o s.within;
+      room = room_set s.lanes k l s.long o s.room;
+      packets = packets_set s.lanes k l s.long o s.packets new;
+    }
 
 pub returns-in-Some : goal.returns-in-Some
 returns-in-Some c =
