@@ -13,9 +13,9 @@ use crate::session::Session;
 
 // Exchanges the ranks from `f` on with those from `g` on, `size` of them.
 fn exchange(book: &mut [Option<Session>], f: usize, g: usize, size: usize)
-    requires size_in_bounds { f + size ≤ length book.old }
-    requires size_in_bounds_2 { g + size ≤ length book.old }
-    requires fact { (f + size ≤ g) ⊎ (g + size ≤ f) }
+    requires left_in { f + size ≤ length book.old }
+    requires right_in { g + size ≤ length book.old }
+    requires apart { (f + size ≤ g) ⊎ (g + size ≤ f) }
     ensures { book.new ≡ exchanged book.old f g size }
 {
     for k in 0..size {

@@ -8,10 +8,10 @@ pub loop-k-preserved : goal.loop-k-preserved
 loop-k-preserved c =
     let p = c.swap.ensures.by_index in
     swapped_more c.args.f c.args.g c.args.size c.loop-k.k c.args.book.now c.loop-k.book c.swap.new.self
-    c.requires.2 (omega arith) c.loop-k.invariant c.swap.ensures.len (p.0 None) (p.1 None) (λ r u v. p.2 r None u v)
+    c.requires.apart (omega arith) c.loop-k.invariant c.swap.ensures.len (p.0 None) (p.1 None) (λ r u v. p.2 r None u v)
 
 pub returns : goal.returns
 returns c =
     let e : c.loop-k.k ≡ c.args.size = omega arith in
-    swapped_is c.args.book.now c.args.f c.args.g c.args.size c.requires.2 c.loop-k.book
+    swapped_is c.args.book.now c.args.f c.args.g c.args.size c.requires.apart c.loop-k.book
     (subst (λ m. Swapped c.args.f c.args.g m c.args.book.now c.loop-k.book) e c.loop-k.invariant)

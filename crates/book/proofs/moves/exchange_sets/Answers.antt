@@ -29,11 +29,11 @@ pub part_of-moved-requires : goal.part_of-moved-requires
 part_of-moved-requires c = omega (arith, pow_pos c.args.level, table_small c.args.levels c.requires.top)
 
 pub exchange-requires : goal.exchange-requires
-exchange-requires c = (
-  omega (arith, free_inside c.args.levels c.args.book.now c.args.level c.args.p c.requires.free),
-  omega arith,
-  elim (apart_inside c.args.level c.args.p c.args.q c.requires.apart) [ inl h ↦ inl (omega arith) | inr h ↦ inr (omega arith) ],
-)
+exchange-requires c = record {
+  left_in = omega (arith, free_inside c.args.levels c.args.book.now c.args.level c.args.p c.requires.free);
+  right_in = omega arith;
+  apart = elim (apart_inside c.args.level c.args.p c.args.q c.requires.apart) [ inl h ↦ inl (omega arith) | inr h ↦ inr (omega arith) ];
+}
 
 pub overflow_shl-result : goal.overflow_shl-result
 overflow_shl-result c = omega (arith, pow_pos c.args.level, table_small c.args.levels c.requires.top)
@@ -48,7 +48,7 @@ pub overflow_shl-result-2 : goal.overflow_shl-result-2
 overflow_shl-result-2 c =
     omega (arith, pow_pos c.args.level, free_inside c.args.levels c.args.book.now c.args.level c.args.p c.requires.free, table_small c.args.levels c.requires.top)
 
-is : (c : goal.After-book·1) → c.args.held - (c.part_of-moved.result * 2 ^ c.first_of-g.result) % 2 ^ 64 + (c.part_of-moved.result * 2 ^ c.first_of-f.result) % 2 ^ 64
+is : (c : goal.After-book-1) → c.args.held - (c.part_of-moved.result * 2 ^ c.first_of-g.result) % 2 ^ 64 + (c.part_of-moved.result * 2 ^ c.first_of-f.result) % 2 ^ 64
     ≡ held_bits c.args.levels (exchanged_sets c.args.book.now c.args.level c.args.p c.args.q)
 is c =
     moved_is c.args.levels c.args.level c.args.p c.args.q c.args.book.now c.requires.table.0 c.requires.sound c.requires.free c.requires.within c.requires.beside c.requires.apart c.requires.top

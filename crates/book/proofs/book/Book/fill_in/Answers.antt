@@ -13,8 +13,8 @@ use Rattle.book.proofs.book.Book.fill_in.Goals as goal
 below : (xs : Ranks) (s : Session) (f : ℕ) → Some f ≡ place_for bits xs s → f < 64
 below xs s f e = let p = place_found bits xs s f e in omega (arith, p.first, p.inside, pow_pos p.level)
 
-pub offset-bounds-self-first : goal.offset-bounds-self-first
-offset-bounds-self-first c = let f = below c.args.self.now.ranks c.args.session c.in-Some.first c.in-Some.ensures in omega arith
+pub offset_bounds-self-first : goal.offset_bounds-self-first
+offset_bounds-self-first c = let f = below c.args.self.now.ranks c.args.session c.in-Some.first c.in-Some.ensures in omega arith
 
 pub bounds-self-first : goal.bounds-self-first
 bounds-self-first c = below c.args.self.now.ranks c.args.session c.in-Some.first c.in-Some.ensures
@@ -42,7 +42,7 @@ invariant_of-self c =
     let s = c.args.session in
     let f = c.in-Some.first in
     let t = tested bits (set b.ranks f (Some s)) (set_stands bits b.ranks s f (place_found bits b.ranks s f c.in-Some.ensures) (book_stands b)) in
-    (t.long, (t.fit, (t.sets, (t.apart, (t.once, (t.ordered, (added c, tt)))))))
+    record { long = t.long; fit = t.fit; sets = t.sets; apart = t.apart; single = t.once; ordered = t.ordered; taken = added c }
 
 pub returns-in-Some : goal.returns-in-Some
 returns-in-Some c =

@@ -9,4 +9,4 @@ use Rattle.book.proofs.book.Book.new.Goals as goal
 pub invariant_of-result : goal.invariant_of-result
 invariant_of-result c =
     let t = tested bits (empty_ranks bits) (empty_stands bits) in
-    (t.long, (t.fit, (t.sets, (t.apart, (t.once, (t.ordered, (sym (empty_bits bits), tt)))))))
+    record { long = t.long; fit = t.fit; sets = t.sets; apart = t.apart; single = t.once; ordered = t.ordered; taken = sym (empty_bits bits) }

@@ -18,7 +18,7 @@ invariant_of-self c =
     let b = c.args.self.now in
     let after = c.release_at-held.ensures.after ∙ released_at_lem bits b.ranks c.args.number c.in-Some.first c.in-Some.ensures in
     let t = tested bits c.release_at-held.new.book (subst (Standing bits) (sym after) (released_stands bits b.ranks c.args.number (book_stands b))) in
-    (t.long, (t.fit, (t.sets, (t.apart, (t.once, (t.ordered, (c.release_at-held.ensures.bits, tt)))))))
+    record { long = t.long; fit = t.fit; sets = t.sets; apart = t.apart; single = t.once; ordered = t.ordered; taken = c.release_at-held.ensures.bits }
 
 pub returns-in-Some : goal.returns-in-Some
 returns-in-Some c =
