@@ -35,7 +35,7 @@ impl Fabric {
         change: BookChange,
     ) -> usize
         requires { port < most_ports }
-        ensures meets { changing result (meaning self.new) (ports bank.new) ≡ changed_at (changed_by change) port (changing 0 (meaning self.old) (ports bank.old)) }
+        ensures meets { changing result (meaning self.new) (B.ports bank.new) ≡ changed_at (changed_by change) port (changing 0 (meaning self.old) (B.ports bank.old)) }
         ensures most { result ≤ slots }
     {
         let old = self.contents_at(port);

@@ -29,8 +29,8 @@ fn cost_of(bytes: u16) -> u8
 
 // The slot at a place of a port's table, round and round.
 fn slot_on<B: Bank>(bank: &B, port: usize, place: usize) -> Slot
-    requires { port < length (ports bank.now) }
-    ensures { result ≡ slot_on (port_at (ports bank.now) port).slots place }
+    requires { port < length (B.ports bank.now) }
+    ensures { result ≡ slot_on (port_at (B.ports bank.now) port).slots place }
 {
     match bank.slot(port, place % SLOTS) {
         Ok(slot) => slot,
@@ -40,7 +40,7 @@ fn slot_on<B: Bank>(bank: &B, port: usize, place: usize) -> Slot
 
 // Whether a packet waits in a lane.
 fn has_packet<L: Lanes>(lanes: &L, lane: u8) -> bool
-    ensures { result ≡ some (queue (queues lanes.now) lane) }
+    ensures { result ≡ some (queue (L.queues lanes.now) lane) }
 {
     match lanes.first(lane) {
         Ok(Some(_)) => true,
@@ -51,16 +51,16 @@ fn has_packet<L: Lanes>(lanes: &L, lane: u8) -> bool
 
 // Whether a credit is left and a packet waits in the lane.
 fn can_send<L: Lanes>(lanes: &L, credit: u8, lane: u8) -> bool
-    ensures { result ≡ (nat_lt 0 credit && some (queue (queues lanes.now) lane)) }
+    ensures { result ≡ (nat_lt 0 credit && some (queue (L.queues lanes.now) lane)) }
 {
     credit > 0 && has_packet(lanes, lane)
 }
 
 // Takes the packet that waits first in a lane. Answers its length, 0 where none waits.
 fn take_first<L: Lanes>(lanes: &mut L, lane: u8) -> u16
-    ensures length { result ≡ first (queue (queues lanes.old) lane) }
+    ensures length { result ≡ first (queue (L.queues lanes.old) lane) }
     ensures most { result ≤ most_bytes }
-    ensures after { queues lanes.new ≡ slice_set (queues lanes.old) lane (rest (queue (queues lanes.old) lane)) }
+    ensures after { queues lanes.new ≡ slice_set (L.queues lanes.old) lane (rest (queue (L.queues lanes.old) lane)) }
 {
     match lanes.take(lane) {
         Ok(bytes) => bytes,
@@ -75,8 +75,8 @@ fn next_ready<B: Bank, L: Lanes>(
     port: usize,
     at: Pointer,
 ) -> Option<(usize, Slot)>
-    requires { port < length (ports bank.now) }
-    ensures { result ≡ seek (ready (port_at (ports bank.now) port).slots at (queues lanes.now)) (λ d. Some (d, slot_on (port_at (ports bank.now) port).slots (at.slot + d))) None 1 slots }
+    requires { port < length (B.ports bank.now) }
+    ensures { result ≡ seek (ready (port_at (B.ports bank.now) port).slots at (L.queues lanes.now)) (λ d. Some (d, slot_on (port_at (B.ports bank.now) port).slots (at.slot + d))) None 1 slots }
 {
     for d in 1..SLOTS + 1 {
         let slot = slot_on(bank, port, at.slot % SLOTS + d);
@@ -91,9 +91,9 @@ impl Fabric {
     // The first packet of a lane is taken. The pointer of the port moves to a slot, with what the packet leaves of the credit.
     fn send<L: Lanes>(&mut self, lanes: &mut L, port: usize, lane: u8, to: Pointer) -> u16
         requires { port < most_ports }
-        ensures length { result ≡ first (queue (queues lanes.old) lane) }
-        ensures state { meaning self.new ≡ with_pointer (meaning self.old) port (record { slot = to.slot; credit = to.credit - cost (first (queue (queues lanes.old) lane)) }) }
-        ensures after { queues lanes.new ≡ slice_set (queues lanes.old) lane (rest (queue (queues lanes.old) lane)) }
+        ensures length { result ≡ first (queue (L.queues lanes.old) lane) }
+        ensures state { meaning self.new ≡ with_pointer (meaning self.old) port (record { slot = to.slot; credit = to.credit - cost (first (queue (L.queues lanes.old) lane)) }) }
+        ensures after { queues lanes.new ≡ slice_set (L.queues lanes.old) lane (rest (queue (L.queues lanes.old) lane)) }
     {
         let length = take_first(lanes, lane);
         self.pointers[port] = Pointer {
@@ -105,8 +105,8 @@ impl Fabric {
 
     // The turn of a port: the packet that it sends next, if a slot serves.
     fn turn<B: Bank, L: Lanes>(&mut self, bank: &B, lanes: &mut L, port: usize) -> Picked
-        requires { port < length (ports bank.now) }
-        ensures { picking (Ok result) (meaning self.new) (queues lanes.new) ≡ if_picked (Ok tt) (meaning self.old) (ports bank.now) (queues lanes.old) port }
+        requires { port < length (B.ports bank.now) }
+        ensures { picking (Ok result) (meaning self.new) (L.queues lanes.new) ≡ if_picked (Ok tt) (meaning self.old) (B.ports bank.now) (L.queues lanes.old) port }
     {
         let at = self.pointers[port];
         let own = slot_on(bank, port, at.slot);
@@ -142,7 +142,7 @@ impl Fabric {
 
     // The questions of a pick, in their order.
     fn ask_pick<B: Bank>(&self, bank: &B, port: usize) -> Result<(), Declined>
-        ensures { result ≡ pick_answer (meaning self.now) (ports bank.now) port }
+        ensures { result ≡ pick_answer (meaning self.now) (B.ports bank.now) port }
     {
         self.ask_started(bank)?;
         if port >= bank.count() {
@@ -161,7 +161,7 @@ impl Fabric {
         lanes: &mut L,
         port: usize,
     ) -> Result<Picked, Declined>
-        ensures meets { picking result (meaning self.new) (queues lanes.new) ≡ pick_call (meaning self.old) (ports bank.now) (queues lanes.old) port }
+        ensures meets { picking result (meaning self.new) (L.queues lanes.new) ≡ pick_call (meaning self.old) (B.ports bank.now) (L.queues lanes.old) port }
     {
         self.ask_pick(bank, port)?;
         Ok(self.turn(bank, lanes, port))

@@ -84,7 +84,7 @@ pub(crate) fn ask_path(count: usize, path: &[usize]) -> Result<(), Declined>
 
 // Whether a port of the bank is open; one that is not there is not.
 pub(crate) fn is_open<B: Bank>(bank: &B, port: usize) -> bool
-    ensures { result ≡ (port_at (ports bank.now) port).«open» }
+    ensures { result ≡ (port_at (B.ports bank.now) port).«open» }
 {
     match bank.is_open(port) {
         Ok(open) => open,
@@ -94,7 +94,7 @@ pub(crate) fn is_open<B: Bank>(bank: &B, port: usize) -> bool
 
 // Is every port on the path open?
 pub(crate) fn ask_open<B: Bank>(bank: &B, path: &[usize]) -> Result<(), Declined>
-    ensures { result ≡ ask_open (ports bank.now) path.now }
+    ensures { result ≡ ask_open (B.ports bank.now) path.now }
 {
     for (hop, port) in path.iter().enumerate() {
         if !is_open(bank, *port) {

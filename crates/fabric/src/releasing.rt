@@ -48,14 +48,14 @@ impl Fabric {
     // Whether a port does not hold the session, or is open.
     fn free_or_open<B: Bank>(&self, bank: &B, port: usize, number: u16) -> bool
         requires { port < most_ports }
-        ensures { result ≡ free_or_open number (ports bank.now) port (book_at (meaning self.now).books port) }
+        ensures { result ≡ free_or_open number (B.ports bank.now) port (book_at (meaning self.now).books port) }
     {
         !self.holds_at(port, number) || is_open(bank, port)
     }
 
     // Is every port that holds the session open?
     fn ask_holders<B: Bank>(&self, bank: &B, number: u16) -> Result<(), Declined>
-        ensures { result ≡ ask_holders number (meaning self.now).books (ports bank.now) }
+        ensures { result ≡ ask_holders number (meaning self.now).books (B.ports bank.now) }
     {
         for port in 0..self.book_count() {
             if !self.free_or_open(bank, port, number) {
@@ -68,7 +68,7 @@ impl Fabric {
     // At one port the session ends, if its book holds it. Answers how many slots changed.
     fn release_at<B: Bank>(&mut self, bank: &mut B, port: usize, number: u16) -> usize
         requires { port < most_ports }
-        ensures meets { changing result (meaning self.new) (ports bank.new) ≡ released_at number port (changing 0 (meaning self.old) (ports bank.old)) }
+        ensures meets { changing result (meaning self.new) (B.ports bank.new) ≡ released_at number port (changing 0 (meaning self.old) (B.ports bank.old)) }
         ensures most { result ≤ slots }
     {
         if !self.holds_at(port, number) {
@@ -79,7 +79,7 @@ impl Fabric {
 
     // At each port that holds it the session ends, and others move. Answers how many slots changed.
     fn release_all<B: Bank>(&mut self, bank: &mut B, number: u16) -> usize
-        ensures { changing result (meaning self.new) (ports bank.new) ≡ changed_along (λ b. released bits b number) (holders number 0 (meaning self.old).books) (changing 0 (meaning self.old) (ports bank.old)) }
+        ensures { changing result (meaning self.new) (B.ports bank.new) ≡ changed_along (λ b. released bits b number) (holders number 0 (meaning self.old).books) (changing 0 (meaning self.old) (B.ports bank.old)) }
     {
         let mut slots = 0;
         for port in 0..self.book_count() {
@@ -90,7 +90,7 @@ impl Fabric {
 
     // Releases a session at all its ports, where the port of each is open. Answers how many slots changed over all ports.
     pub fn release<B: Bank>(&mut self, bank: &mut B, number: u32) -> Result<usize, Declined>
-        ensures meets { outcome result (meaning self.new) (ports bank.new) ≡ release_call (meaning self.old) (ports bank.old) number }
+        ensures meets { outcome result (meaning self.new) (B.ports bank.new) ≡ release_call (meaning self.old) (B.ports bank.old) number }
     {
         self.ask_started(bank)?;
         ask_number(number)?;

@@ -39,7 +39,7 @@ fn some_holds(books: &[Book], number: u16) -> bool
 impl Fabric {
     // Was the fabric started on a bank with this port count?
     pub(crate) fn ask_started<B: Bank>(&self, bank: &B) -> Result<(), Declined>
-        ensures { result ≡ ask_started (meaning self.now) (ports bank.now) }
+        ensures { result ≡ ask_started (meaning self.now) (B.ports bank.now) }
     {
         match self.started {
             Some(count) if count == bank.count() => Ok(()),
@@ -95,7 +95,7 @@ impl Fabric {
         weight: u32,
         path: &[usize],
     ) -> Result<Admission, Declined>
-        ensures { result ≡ admitted (meaning self.now) (ports bank.now) number level weight path.now }
+        ensures { result ≡ admitted (meaning self.now) (B.ports bank.now) number level weight path.now }
     {
         self.ask_started(bank)?;
         ask_number(number)?;
@@ -117,7 +117,7 @@ impl Fabric {
     fn fill_path<B: Bank>(&mut self, bank: &mut B, path: &[usize], session: Session) -> usize
         requires hops { length path.now ≤ most_hops }
         requires below { (k : ℕ) → k < length path.now → slice_index path.now k < most_ports }
-        ensures { changing result (meaning self.new) (ports bank.new) ≡ changed_along (λ b. filled bits b session) path.now (changing 0 (meaning self.old) (ports bank.old)) }
+        ensures { changing result (meaning self.new) (B.ports bank.new) ≡ changed_along (λ b. filled bits b session) path.now (changing 0 (meaning self.old) (B.ports bank.old)) }
     {
         let mut slots = 0;
         for hop in 0..path.len() {
@@ -135,7 +135,7 @@ impl Fabric {
         weight: u32,
         path: &[usize],
     ) -> Result<(usize, u32, usize), Declined>
-        ensures meets { outcome result (meaning self.new) (ports bank.new) ≡ reserve_call (meaning self.old) (ports bank.old) number level weight path.now }
+        ensures meets { outcome result (meaning self.new) (B.ports bank.new) ≡ reserve_call (meaning self.old) (B.ports bank.old) number level weight path.now }
     {
         let Admission { service, session } = self.admit(bank, number, level, weight, path)?;
         let slots = self.fill_path(bank, path, session);

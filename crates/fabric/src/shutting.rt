@@ -10,7 +10,7 @@ use bank::bank::Bank;
 impl Fabric {
     // Shuts a port. Its sessions stay, and nothing is written there until it is reopened.
     pub fn shut<B: Bank>(&mut self, bank: &mut B, port: usize) -> Result<(), Declined>
-        ensures meets { outcome result (meaning self.new) (ports bank.new) ≡ shut_call (meaning self.old) (ports bank.old) port }
+        ensures meets { outcome result (meaning self.new) (B.ports bank.new) ≡ shut_call (meaning self.old) (B.ports bank.old) port }
     {
         match bank.shut(port) {
             Ok(()) => Ok(()),
@@ -20,7 +20,7 @@ impl Fabric {
 
     // Reopens a port.
     pub fn reopen<B: Bank>(&mut self, bank: &mut B, port: usize) -> Result<(), Declined>
-        ensures meets { outcome result (meaning self.new) (ports bank.new) ≡ reopen_call (meaning self.old) (ports bank.old) port }
+        ensures meets { outcome result (meaning self.new) (B.ports bank.new) ≡ reopen_call (meaning self.old) (B.ports bank.old) port }
     {
         match bank.reopen(port) {
             Ok(()) => Ok(()),

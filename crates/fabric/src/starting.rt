@@ -14,7 +14,7 @@ use table::slot::Slot;
 
 // Is every port of the bank open?
 fn ask_all_open<B: Bank>(bank: &B) -> Result<(), Declined>
-    ensures { result ≡ start_answer (ports bank.now) }
+    ensures { result ≡ start_answer (B.ports bank.now) }
 {
     for port in 0..bank.count() {
         if !is_open(bank, port) {
@@ -26,9 +26,9 @@ fn ask_all_open<B: Bank>(bank: &B) -> Result<(), Declined>
 
 // Empties the slots of an open port.
 fn empty_port<B: Bank>(bank: &mut B, port: usize)
-    requires within { port < length (ports bank.old) }
-    requires open { (port_at (ports bank.old) port).«open» ≡ true }
-    ensures { ports bank.new ≡ slice_set (ports bank.old) port (emptied_port (port_at (ports bank.old) port)) }
+    requires within { port < length (B.ports bank.old) }
+    requires open { (port_at (B.ports bank.old) port).«open» ≡ true }
+    ensures { ports bank.new ≡ slice_set (B.ports bank.old) port (emptied_port (port_at (B.ports bank.old) port)) }
 {
     for slot in 0..SLOTS {
         let _ = bank.write(port, slot, Slot::empty());
@@ -37,8 +37,8 @@ fn empty_port<B: Bank>(bank: &mut B, port: usize)
 
 // Empties the slots of all ports, which are open.
 fn empty_all<B: Bank>(bank: &mut B)
-    requires { (p : ℕ) → p < length (ports bank.old) → (port_at (ports bank.old) p).«open» ≡ true }
-    ensures { ports bank.new ≡ map emptied_port (ports bank.old) }
+    requires { (p : ℕ) → p < length (B.ports bank.old) → (port_at (B.ports bank.old) p).«open» ≡ true }
+    ensures { ports bank.new ≡ map emptied_port (B.ports bank.old) }
 {
     for port in 0..bank.count() {
         empty_port(bank, port);
@@ -62,7 +62,7 @@ impl Fabric {
 
     // Ends all sessions and empties all slots, where every port is open.
     pub fn start<B: Bank>(&mut self, bank: &mut B) -> Result<(), Declined>
-        ensures meets { outcome result (meaning self.new) (ports bank.new) ≡ start_call (meaning self.old) (ports bank.old) }
+        ensures meets { outcome result (meaning self.new) (B.ports bank.new) ≡ start_call (meaning self.old) (B.ports bank.old) }
     {
         ask_all_open(bank)?;
         empty_all(bank);
