@@ -13,7 +13,7 @@ use Rattle.book.specs.Bits.{bits_of, held_bits, part, free_bits}
 use Rattle.book.specs.Levels.{up, dbl, sw, FreeIn, Free, Beside}
 use Rattle.book.specs.Sound.{FreeSet, Sound}
 use Rattle.book.specs.Searches.{count}
-use Rattle.book.specs.Moves.{brother, exchanged_sets, other_by, other_whole, loose_by, loose_rank, around_by, whole_around}
+use Rattle.book.specs.Moves.{brother, exchanged_sets, other_by, other_whole, loose_by, loose_rank, climb_by, climb, around_by, whole_around}
 use Rattle.book.specs.Books.{empty_ranks, lowest_first_by, lowest_first, free_ranks}
 use Rattle.book.proofs.Found.{first_cases}
 use Rattle.book.proofs.Placed.{Place}
@@ -290,6 +290,11 @@ lowest_within n held i q e =
     (sym e) (first_cases (free_bits n held i) 0 (2 ^ n / 2 ^ i)) in
     count_inside n i q (omega (arith, t.1))
 
+-- the climb by the book's free sets
+climb_is : (n : ℕ) (xs : Ranks) (i q k : ℕ) → climb n xs i q k ≡ climb_by (is_free n xs) i q k
+climb_is n xs i q zero = refl
+climb_is n xs i q (suc k) = ap (λ w. cond (is_free n xs (suc i) (q / 2)) w (i, q)) (climb_is n xs (suc i) (q / 2) k)
+
 -- what the code finds by the bits is what the book has
 module _ (n : ℕ) (xs : Ranks) (held : ℕ) (is : held ≡ held_bits n xs) where
   pub other_is : (i p : ℕ) (o : Option ℕ) → o ≡ other_by n (free_bits n held) i p → o ≡ other_whole n xs i p
@@ -303,7 +308,7 @@ module _ (n : ℕ) (xs : Ranks) (held : ℕ) (is : held ≡ held_bits n xs) wher
   loose_is i o e = e ∙ ap (λ free. loose_by n free i) (bits_free n xs held is)
 
   pub around_is : (i q : ℕ) (w : ℕ × ℕ) → w ≡ around_by n (free_bits n held) i q → w ≡ whole_around n xs i q
-  around_is i q w e = e ∙ ap (λ free. around_by n free i q) (bits_free n xs held is)
+  around_is i q w e = e ∙ ap (λ free. around_by n free i q) (bits_free n xs held is) ∙ sym (climb_is n xs i q (n - i))
 
   pub lowest_is : (size : ℕ) (o : Option ℕ) → o ≡ lowest_first_by n (free_bits n held) size → o ≡ lowest_first n xs size
   unfolding lowest_first

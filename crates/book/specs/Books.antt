@@ -3,10 +3,10 @@ use Rattle.std.specs.Prelude.{ℕ, ◌+◌, ◌*◌, ◌^◌, Bool, cond, not, �
 use Rattle.book.specs.declared.session.Session.{Session}
 use Rattle.book.specs.Searches.{count, when_some}
 use Rattle.book.specs.Entries.{size_of, level_for, place_of}
-use Rattle.book.specs.Sets.{FreeSets, is_free, lowest_by}
+use Rattle.book.specs.Sets.{FreeSets, is_free, lowest_by, lowest_free}
 use Rattle.book.specs.Moves.{released_set}
 unfoldable pub use Rattle.book.specs.Entries.{Ranks, grant_of, fits, holds}
-unfoldable pub use Rattle.book.specs.Slots.{contents, differ, changed_slots}
+unfoldable pub use Rattle.book.specs.Slots.{contents, differ, changed_slots, written}
 
 -- a book of 2 ^ n ranks without sessions
 abbrev pub empty_ranks : ℕ → Ranks
@@ -21,7 +21,7 @@ abbrev pub lowest_first_by : ℕ → FreeSets → ℕ → Option ℕ
 lowest_first_by n free size = when_some (level_for n size) None (λ i. when_some (lowest_by n free i) None (λ q. Some (q * 2 ^ i)))
 
 unfoldable pub lowest_first : ℕ → Ranks → ℕ → Option ℕ
-lowest_first n xs size = lowest_first_by n (is_free n xs) size
+lowest_first n xs size = when_some (level_for n size) None (λ i. when_some (lowest_free n xs i) None (λ q. Some (q * 2 ^ i)))
 
 -- where a session is put: the lowest free set of its size, if it is one that a book takes and its number is new
 unfoldable pub place_for : ℕ → Ranks → Session → Option ℕ

@@ -3,7 +3,7 @@ use Rattle.std.specs.Prelude.{ℕ, zero, suc, ◌+◌, ◌-◌, ◌*◌, ◌/◌
 use Rattle.std.specs.List.{range_with_len}
 use Rattle.book.specs.Searches.{first_from, last_below, when_some}
 use Rattle.book.specs.Entries.{Ranks}
-use Rattle.book.specs.Sets.{FreeSets, whole_by, is_free}
+use Rattle.book.specs.Sets.{FreeSets, whole_by, is_free, is_whole}
 
 -- the whole free set around a free one, at most k levels up, as level and index
 abbrev pub climb_by : FreeSets → ℕ → ℕ → ℕ → ℕ × ℕ
@@ -11,21 +11,22 @@ climb_by free i q zero = (i, q)
 climb_by free i q (suc k) = cond (free (suc i) (q / 2)) (climb_by free (suc i) (q / 2) k) (i, q)
 
 abbrev pub climb : ℕ → Ranks → ℕ → ℕ → ℕ → ℕ × ℕ
-climb n xs i q k = climb_by (is_free n xs) i q k
+climb n xs i q zero = (i, q)
+climb n xs i q (suc k) = cond (is_free n xs (suc i) (q / 2)) (climb n xs (suc i) (q / 2) k) (i, q)
 
 -- the largest set of a table is of level n
 abbrev pub around_by : ℕ → FreeSets → ℕ → ℕ → ℕ × ℕ
 around_by n free i q = climb_by free i q (n - i)
 
 abbrev pub whole_around : ℕ → Ranks → ℕ → ℕ → ℕ × ℕ
-whole_around n xs i q = around_by n (is_free n xs) i q
+whole_around n xs i q = climb n xs i q (n - i)
 
 -- another whole free set of level i than p
 abbrev pub other_by : ℕ → FreeSets → ℕ → ℕ → Option ℕ
 other_by n free i p = first_from (λ o. not (o == p) && whole_by free i o) 0 (2 ^ n / 2 ^ i)
 
 abbrev pub other_whole : ℕ → Ranks → ℕ → ℕ → Option ℕ
-other_whole n xs i p = other_by n (is_free n xs) i p
+other_whole n xs i p = first_from (λ o. not (o == p) && is_whole n xs i o) 0 (2 ^ n / 2 ^ i)
 
 -- the set that together with the set q is one of double size
 abbrev pub brother : ℕ → ℕ
@@ -61,7 +62,7 @@ abbrev pub loose_by : ℕ → FreeSets → ℕ → Option ℕ
 loose_by n free i = last_below (λ r. free 0 r && not (free i (r / 2 ^ i))) (2 ^ n)
 
 abbrev pub loose_rank : ℕ → Ranks → ℕ → Option ℕ
-loose_rank n xs i = loose_by n (is_free n xs) i
+loose_rank n xs i = last_below (λ r. is_free n xs 0 r && not (is_free n xs i (r / 2 ^ i))) (2 ^ n)
 
 -- Ordering at level i: where smaller whole free sets lie to the right of the whole free set of this level, it is exchanged with the set of its
 -- size that contains the rightmost of them. No set has the index 2 ^ n, so every whole free set of the level is another than that.

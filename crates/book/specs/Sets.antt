@@ -30,11 +30,11 @@ abbrev pub whole_by : FreeSets → ℕ → ℕ → Bool
 whole_by free i q = free i q && not (free (suc i) (q / 2))
 
 abbrev pub is_whole : ℕ → Ranks → ℕ → ℕ → Bool
-is_whole n xs i q = whole_by (is_free n xs) i q
+is_whole n xs i q = is_free n xs i q && not (is_free n xs (suc i) (q / 2))
 
 -- the lowest free set of level i
 abbrev pub lowest_by : ℕ → FreeSets → ℕ → Option ℕ
 lowest_by n free i = first_from (free i) 0 (2 ^ n / 2 ^ i)
 
 abbrev pub lowest_free : ℕ → Ranks → ℕ → Option ℕ
-lowest_free n xs i = lowest_by n (is_free n xs) i
+lowest_free n xs i = first_from (is_free n xs i) 0 (2 ^ n / 2 ^ i)

@@ -46,3 +46,10 @@ unfoldable pub changed_slots : List Slot → List Slot → ℕ
 changed_slots [] new = 0
 changed_slots (a ∷ old) [] = 0
 changed_slots (a ∷ old) (b ∷ new) = cond (differ a b) 1 0 + changed_slots old new
+
+-- a table in which just the slots that differ from old to new are written, as in new
+unfoldable pub written : List Slot → List Slot → List Slot → List Slot
+written [] old new = []
+written (x ∷ was) [] new = x ∷ was
+written (x ∷ was) (a ∷ old) [] = x ∷ was
+written (x ∷ was) (a ∷ old) (b ∷ new) = cond (differ a b) b x ∷ written was old new

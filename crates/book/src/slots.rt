@@ -1,8 +1,8 @@
-// The slots that a book gives.
+// The slots that a book gives, and how many of them a change of the book changes.
 ghost use Rattle.std.specs.Prelude.{◌≡◌, ◌+◌, ◌-◌, ◌%◌, ◌^◌, ◌≤◌, true, length, if◌then◌else◌, Some, nat_lt};
 ghost use Rattle.table.specs.Slots.{bits};
 ghost use Rattle.book.specs.Entries.{grant_of};
-ghost use Rattle.book.specs.Slots.{slot_for, carried, Lays, contents};
+ghost use Rattle.book.specs.Slots.{slot_for, carried, Lays, contents, changed_slots};
 ghost use Rattle.book.specs.Standing.{Standing};
 
 use crate::session::Session;
@@ -78,4 +78,17 @@ pub(crate) fn slots_of(book: &[Option<Session>]) -> [Slot; 64]
         }
     }
     table
+}
+
+// How many slots differ from one table to another.
+pub fn differences(old: &[Slot; 64], new: &[Slot; 64]) -> usize
+    ensures { result ≡ changed_slots old.now new.now }
+{
+    let mut changed: usize = 0;
+    for slot in 0..SLOTS {
+        if !old[slot].same(new[slot]) {
+            changed += 1;
+        }
+    }
+    changed
 }
