@@ -21,7 +21,7 @@ use text::parse::parse;
 
 // The image of a port's table.
 fn tell_table<B: Bank>(bank: &B, port: usize) -> Result<Said, Declined>
-    ensures { result ≡ table_answer (ports bank.now) port }
+    ensures { result ≡ table_answer (B.ports bank.now) port }
 {
     let mut image = [0u8; IMAGE];
     match write_image(bank, port, &mut image) {
@@ -49,7 +49,7 @@ fn act<B: Bank, L: Lanes>(
     lanes: &mut L,
     command: &Command,
 ) -> Result<Said, Declined>
-    ensures { acting result (meaning fabric.new) (ports bank.new) (queues lanes.new) ≡ acted (meaning fabric.old) (ports bank.old) (queues lanes.old) (asked_by command.now) }
+    ensures { acting result (meaning fabric.new) (B.ports bank.new) (L.queues lanes.new) ≡ acted (meaning fabric.old) (B.ports bank.old) (L.queues lanes.old) (asked_by command.now) }
 {
     match command {
         Command::Reserve {
@@ -81,7 +81,7 @@ fn obey<B: Bank, L: Lanes>(
     lanes: &mut L,
     line: &[u8],
 ) -> Result<Said, Declined>
-    ensures { acting result (meaning fabric.new) (ports bank.new) (queues lanes.new) ≡ obeyed (meaning fabric.old) (ports bank.old) (queues lanes.old) line.now }
+    ensures { acting result (meaning fabric.new) (B.ports bank.new) (L.queues lanes.new) ≡ obeyed (meaning fabric.old) (B.ports bank.old) (L.queues lanes.old) line.now }
 {
     match parse(line) {
         Ok(command) => act(fabric, bank, lanes, &command),
@@ -117,7 +117,7 @@ pub(crate) fn respond<B: Bank, L: Lanes>(
     line: &[u8],
     out: &mut [u8; ANSWER],
 ) -> (usize, Option<Declined>)
-    ensures { Responds (obeyed (meaning fabric.old) (ports bank.old) (queues lanes.old) line.now) out.old out.new result.0 result.1 (meaning fabric.new) (ports bank.new) (queues lanes.new) }
+    ensures { Responds (obeyed (meaning fabric.old) (B.ports bank.old) (L.queues lanes.old) line.now) out.old out.new result.0 result.1 (meaning fabric.new) (B.ports bank.new) (L.queues lanes.new) }
 {
     match obey(fabric, bank, lanes, line) {
         Ok(said) => (write_said(out, &said), None),
@@ -137,7 +137,7 @@ pub fn answer_line<B: Bank, L: Lanes>(
     line: &[u8],
     out: &mut [u8; ANSWER],
 ) -> Reply
-    ensures { Answers number (obeyed (meaning fabric.old) (ports bank.old) (queues lanes.old) line.now) out.old out.new result (meaning fabric.new) (ports bank.new) (queues lanes.new) }
+    ensures { Answers number (obeyed (meaning fabric.old) (B.ports bank.old) (L.queues lanes.old) line.now) out.old out.new result (meaning fabric.new) (B.ports bank.new) (L.queues lanes.new) }
 {
     let (bytes, declined) = respond(fabric, bank, lanes, line, out);
     Reply {

@@ -40,10 +40,10 @@ fn add_answer<B: Bank, L: Lanes>(
     line: &[u8],
     answers: &mut Vec<u8>,
 ) -> Result<(), AllocError>
-    ensures text { OnOk result (answers.new.items ≡ answers.old.items ++ answer_text (obeyed (meaning fabric.old) (ports bank.old) (queues lanes.old) line.now).answer) }
-    ensures state { meaning fabric.new ≡ (obeyed (meaning fabric.old) (ports bank.old) (queues lanes.old) line.now).state }
-    ensures ports { ports bank.new ≡ (obeyed (meaning fabric.old) (ports bank.old) (queues lanes.old) line.now).ports }
-    ensures queues { queues lanes.new ≡ (obeyed (meaning fabric.old) (ports bank.old) (queues lanes.old) line.now).queues }
+    ensures text { OnOk result (answers.new.items ≡ answers.old.items ++ answer_text (obeyed (meaning fabric.old) (B.ports bank.old) (L.queues lanes.old) line.now).answer) }
+    ensures state { meaning fabric.new ≡ (obeyed (meaning fabric.old) (B.ports bank.old) (L.queues lanes.old) line.now).state }
+    ensures ports { B.ports bank.new ≡ (obeyed (meaning fabric.old) (B.ports bank.old) (L.queues lanes.old) line.now).ports }
+    ensures queues { L.queues lanes.new ≡ (obeyed (meaning fabric.old) (B.ports bank.old) (L.queues lanes.old) line.now).queues }
 {
     let mut out = [0u8; ANSWER];
     let (bytes, _) = respond(fabric, bank, lanes, line, &mut out);
@@ -58,7 +58,7 @@ pub fn answer_lines<B: Bank, L: Lanes>(
     lanes: &mut L,
     input: &[u8],
 ) -> Result<Vec<u8>, AllocError>
-    ensures { IfOk result (λ v. v.items ≡ answers_from (meaning fabric.old) (ports bank.old) (queues lanes.old) (lines_of input.now)) }
+    ensures { IfOk result (λ v. v.items ≡ answers_from (meaning fabric.old) (B.ports bank.old) (L.queues lanes.old) (lines_of input.now)) }
 {
     let mut answers = Vec::new(heap);
     for line in lines(input) {

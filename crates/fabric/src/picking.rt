@@ -60,7 +60,7 @@ fn can_send<L: Lanes>(lanes: &L, credit: u8, lane: u8) -> bool
 fn take_first<L: Lanes>(lanes: &mut L, lane: u8) -> u16
     ensures length { result ≡ first (queue (L.queues lanes.old) lane) }
     ensures most { result ≤ most_bytes }
-    ensures after { queues lanes.new ≡ slice_set (L.queues lanes.old) lane (rest (queue (L.queues lanes.old) lane)) }
+    ensures after { L.queues lanes.new ≡ slice_set (L.queues lanes.old) lane (rest (queue (L.queues lanes.old) lane)) }
 {
     match lanes.take(lane) {
         Ok(bytes) => bytes,
@@ -93,7 +93,7 @@ impl Fabric {
         requires { port < most_ports }
         ensures length { result ≡ first (queue (L.queues lanes.old) lane) }
         ensures state { meaning self.new ≡ with_pointer (meaning self.old) port (record { slot = to.slot; credit = to.credit - cost (first (queue (L.queues lanes.old) lane)) }) }
-        ensures after { queues lanes.new ≡ slice_set (L.queues lanes.old) lane (rest (queue (L.queues lanes.old) lane)) }
+        ensures after { L.queues lanes.new ≡ slice_set (L.queues lanes.old) lane (rest (queue (L.queues lanes.old) lane)) }
     {
         let length = take_first(lanes, lane);
         self.pointers[port] = Pointer {

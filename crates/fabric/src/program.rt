@@ -25,7 +25,7 @@ impl Fabric {
 // Writes one slot where it changes. Answers how many were written.
 fn write_changed<B: Bank>(bank: &mut B, port: usize, slot: usize, old: Slot, new: Slot) -> usize
     ensures count { result ≡ (if differ old new then 1 else 0) }
-    ensures after { ports bank.new ≡ (if same_slot old new then ports bank.old else write_after (B.ports bank.old) port slot new) }
+    ensures after { B.ports bank.new ≡ (if same_slot old new then B.ports bank.old else write_after (B.ports bank.old) port slot new) }
 {
     if old.same(new) {
         return 0;
@@ -40,7 +40,7 @@ pub(crate) fn program<B: Bank>(bank: &mut B, port: usize, old: &[Slot], new: &[S
     requires same { length new.now ≡ slots }
     ensures count { result ≡ changed_slots old.now new.now }
     ensures most { result ≤ slots }
-    ensures after { ports bank.new ≡ programmed port 0 old.now new.now (B.ports bank.old) }
+    ensures after { B.ports bank.new ≡ programmed port 0 old.now new.now (B.ports bank.old) }
 {
     let mut written = 0;
     for slot in 0..SLOTS {

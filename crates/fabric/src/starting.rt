@@ -28,7 +28,7 @@ fn ask_all_open<B: Bank>(bank: &B) -> Result<(), Declined>
 fn empty_port<B: Bank>(bank: &mut B, port: usize)
     requires within { port < length (B.ports bank.old) }
     requires open { (port_at (B.ports bank.old) port).«open» ≡ true }
-    ensures { ports bank.new ≡ slice_set (B.ports bank.old) port (emptied_port (port_at (B.ports bank.old) port)) }
+    ensures { B.ports bank.new ≡ slice_set (B.ports bank.old) port (emptied_port (port_at (B.ports bank.old) port)) }
 {
     for slot in 0..SLOTS {
         let _ = bank.write(port, slot, Slot::empty());
@@ -38,7 +38,7 @@ fn empty_port<B: Bank>(bank: &mut B, port: usize)
 // Empties the slots of all ports, which are open.
 fn empty_all<B: Bank>(bank: &mut B)
     requires { (p : ℕ) → p < length (B.ports bank.old) → (port_at (B.ports bank.old) p).«open» ≡ true }
-    ensures { ports bank.new ≡ map emptied_port (B.ports bank.old) }
+    ensures { B.ports bank.new ≡ map emptied_port (B.ports bank.old) }
 {
     for port in 0..bank.count() {
         empty_port(bank, port);

@@ -17,7 +17,7 @@ fn dispatch<B: Bank, L: Lanes>(
     lanes: &mut L,
     call: &Call,
 ) -> Result<Answer, Declined>
-    ensures meets { leaving result (meaning fabric.new) (ports bank.new) (queues lanes.new) ≡ performed (meaning fabric.old) (ports bank.old) (queues lanes.old) (asked call.now) }
+    ensures meets { leaving result (meaning fabric.new) (B.ports bank.new) (L.queues lanes.new) ≡ performed (meaning fabric.old) (B.ports bank.old) (L.queues lanes.old) (asked call.now) }
 {
     match *call {
         Call::Start => {
@@ -60,9 +60,9 @@ pub fn perform<B: Bank, L: Lanes>(
     lanes: &mut L,
     call: &Call,
 ) -> Result<Answer, Declined>
-    ensures meets { leaving result (meaning fabric.new) (ports bank.new) (queues lanes.new) ≡ performed (meaning fabric.old) (ports bank.old) (queues lanes.old) (asked call.now) }
-    ensures carries { Carries (meaning fabric.old) (ports bank.old) (queues lanes.old) (asked call.now) result (meaning fabric.new) (ports bank.new) (queues lanes.new) }
-    ensures begins { Begins (ports bank.old) (asked call.now) result (meaning fabric.new) (ports bank.new) }
+    ensures meets { leaving result (meaning fabric.new) (B.ports bank.new) (L.queues lanes.new) ≡ performed (meaning fabric.old) (B.ports bank.old) (L.queues lanes.old) (asked call.now) }
+    ensures carries { Carries (meaning fabric.old) (B.ports bank.old) (L.queues lanes.old) (asked call.now) result (meaning fabric.new) (B.ports bank.new) (L.queues lanes.new) }
+    ensures begins { Begins (B.ports bank.old) (asked call.now) result (meaning fabric.new) (B.ports bank.new) }
 {
     dispatch(fabric, bank, lanes, call)
 }
