@@ -1,6 +1,6 @@
 -- A book has room for a session exactly where its sessions and the new one together have an even placement.
 use Rattle.std.proofs.Common.{◌≡◌, ℕ, zero, suc, ◌+◌, ◌-◌, ◌*◌, ◌/◌, ◌%◌, ◌^◌, ◌<◌, ◌≤◌, Bool, true, false, leb, ◌⊎◌, ◌↔◌, List, [], ◌∷◌, length, get_or, Some, None, sum_by, Option, sym, refl, ap, ◌∙◌, subst, inl, inr, arith, pow_pos, pow-add, MatchOption}
-use Rattle.std.specs.List.{AllByRecursion as All}
+use Rattle.std.specs.List.{AllByRecursion}
 use Rattle.std.proofs.lemmas.Nat.{mod-mul-add}
 use Rattle.std.proofs.ByRecursion.{All-from_get_or}
 use Rattle.std.proofs.lemmas.List.{get_or_past}
@@ -33,7 +33,7 @@ divides n k t l e =
     ∙ mod-mul-add (2 ^ (n - k)) t 0 (omega (arith, e, pow_pos k))
 
 -- the sessions' slots by their spacings
-sizes_of : (n : ℕ) (ss : List Session) → All (Fits n) ss → sum_by (λ t. 2 ^ n / t) (spacings n ss) ≡ sum_by (λ (s : Session). s.size) ss
+sizes_of : (n : ℕ) (ss : List Session) → AllByRecursion (Fits n) ss → sum_by (λ t. 2 ^ n / t) (spacings n ss) ≡ sum_by (λ (s : Session). s.size) ss
 sizes_of n [] h = refl
 sizes_of n (s ∷ ss) h =
     let k = h.0 in
@@ -41,14 +41,14 @@ sizes_of n (s ∷ ss) h =
     ap (λ y. 2 ^ n / y) (ap (λ y. 2 ^ n / y) k.size_is) ∙ turns_back n (2 ^ n / 2 ^ k.level) k.level k.low refl ∙ sym k.size_is in
     omega (arith, sum_by-cons (λ t. 2 ^ n / t) (spacing_of n s) (spacings n ss), sum_by-cons (λ (s : Session). s.size) s ss, sizes_of n ss h.1, e)
 
-all_divide : (n : ℕ) (ss : List Session) → All (Fits n) ss → All (λ t. 2 ^ n % t ≡ 0) (spacings n ss)
+all_divide : (n : ℕ) (ss : List Session) → AllByRecursion (Fits n) ss → AllByRecursion (λ t. 2 ^ n % t ≡ 0) (spacings n ss)
 all_divide n [] h = tt
 all_divide n (s ∷ ss) h =
     let k = h.0 in
     (divides n (n - k.level) (spacing_of n s) (omega arith) (ap (λ y. 2 ^ n / y) k.size_is ∙ apart_pow n k.level k.low), all_divide n ss h.1)
 
 module _ (n : ℕ) (xs : Ranks) (h : Standing n xs) (live : List Session) (same : SameSessions live (sessions_of xs)) where
-  live_fit : All (Fits n) live
+  live_fit : AllByRecursion (Fits n) live
   live_fit = All-from_get_or (Fits n) live no_session (fit_at n xs h live same)
 
   -- what is free and what the sessions have make the table

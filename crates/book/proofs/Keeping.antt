@@ -3,7 +3,7 @@ use Rattle.std.proofs.Common.{◌≡◌, ℕ, zero, suc, ◌+◌, ◌-◌, ◌*�
 use native.Mathlib.Nat.{mul-mod_left}
 use lib.ListN.{length-replicate}
 use Rattle.std.specs.List.Sorted.{IsPermutation}
-use Rattle.std.specs.List.{AllByRecursion as All}
+use Rattle.std.specs.List.{AllByRecursion}
 use Rattle.std.proofs.ByRecursion.{All-get_or, All-from_get_or, All-set, all_shuffled}
 use Rattle.std.proofs.lemmas.List.{get_or-set_same, get_or-set_other, get_or_past}
 use Rattle.std.proofs.lemmas.List.Sorted.{sum_by-IsPermutation, length_permutation}
@@ -260,7 +260,7 @@ module _ (n : ℕ) (xs : Ranks) (f j : ℕ) (s : Session) (is : get_or xs f None
   kept : Sound n (size_at (released_set n xs j f)) × Ordered n (size_at (released_set n xs j f)) × IsPermutation (set xs f None) (released_set n xs j f)
   kept = released_set_keeps n xs j f (omega (arith, h.long)) held h.sound h.ordered
 
-  fit_all : All (λ x. fits_in n x ≡ true) xs
+  fit_all : AllByRecursion (λ x. fits_in n x ≡ true) xs
   fit_all = All-from_get_or (λ x. fits_in n x ≡ true) xs None (λ i l. one i (get_or xs i None) refl)
     where
       one : (i : ℕ) (x : Option Session) → x ≡ get_or xs i None → fits_in n (get_or xs i None) ≡ true

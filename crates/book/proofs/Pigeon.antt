@@ -1,6 +1,6 @@
 -- An even placement has no more slots than the table: each session has its share of them, and no slot is counted twice.
 use Rattle.std.proofs.Common.{◌≡◌, ℕ, zero, suc, ◌+◌, ◌-◌, ◌*◌, ◌/◌, ◌%◌, ◌<◌, ◌≤◌, Bool, true, false, cond, ◌||◌, eqb, ltb, ◌⊎◌, List, [], ◌∷◌, length, get_or, sum_by, sym, refl, ap, ◌∙◌, subst, inl, inr, add-zero, add-suc, mod-lt, div-add-mod', arith}
-use Rattle.std.specs.List.{AllByRecursion as All}
+use Rattle.std.specs.List.{AllByRecursion}
 use Rattle.std.proofs.lemmas.List.Sums.{sum_by-cons}
 use Rattle.std.proofs.lemmas.Nat.{mod-mul-add}
 use Rattle.std.proofs.lemmas.Bool.{false≢true, eqb-true, eq-eqb, ne_eqb, ltb-true, ltb-false, lt-ltb, le-ltb, or_cases, cases_eq, cases_lt, cases_order, cond_both}
@@ -62,7 +62,7 @@ even_rest n t o ts os e = record {
   apart = λ i j s l m b x y. omega (arith, e.apart (suc i) (suc j) s (omega arith) (omega arith) b x y);
 }
 
-slots_had : (n : ℕ) (ts os : List ℕ) → All (λ t. n % t ≡ 0) ts → Even n ts os → sum_by (λ t. n / t) ts ≤ count (held ts os) n
+slots_had : (n : ℕ) (ts os : List ℕ) → AllByRecursion (λ t. n % t ≡ 0) ts → Even n ts os → sum_by (λ t. n / t) ts ≤ count (held ts os) n
 slots_had n [] os d e = omega arith
 slots_had n (t ∷ ts) [] d e = absurd (omega (arith, e.same))
 slots_had n (t ∷ ts) (o ∷ os) d e = rw (sum_by-cons (λ t. n / t) t ts) (omega (
@@ -76,5 +76,5 @@ slots_had n (t ∷ ts) (o ∷ os) d e = rw (sum_by-cons (λ t. n / t) t ts) (ome
     share : count (λ s. eqb (s % t) o) n ≡ n / t
     share = ap (count (λ s. eqb (s % t) o)) {x = n} {y = n / t * t} (omega (arith, div-add-mod' n t, d.0)) ∙ count_mod t o (n / t) (e.inside 0 (omega arith))
 
-pub pigeonhole : (n : ℕ) (spacings offsets : List ℕ) → All (λ t. n % t ≡ 0) spacings → Even n spacings offsets → sum_by (λ t. n / t) spacings ≤ n
+pub pigeonhole : (n : ℕ) (spacings offsets : List ℕ) → AllByRecursion (λ t. n % t ≡ 0) spacings → Even n spacings offsets → sum_by (λ t. n / t) spacings ≤ n
 pigeonhole n ts os d e = omega (arith, slots_had n ts os d e, count_le (held ts os) n)

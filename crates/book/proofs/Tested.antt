@@ -1,7 +1,7 @@
 -- The tests of a book's entries say what every book keeps.
 use Rattle.std.proofs.Common.{◌≡◌, ℕ, zero, suc, ◌+◌, ◌*◌, ◌/◌, ◌%◌, ◌^◌, ◌<◌, ◌≤◌, Bool, true, false, cond, not, ◌&&◌, ◌||◌, eqb, ltb, leb, ◌⊎◌, List, [], ◌∷◌, length, get_or, replicate, is_some, Some, None, Decides, Option, sym, refl, ap, ◌∙◌, subst, inl, inr, arith, pow_pos, MatchOption}
 use lib.Pow.{pow-lt}
-use Rattle.std.specs.List.{AllByRecursion as All}
+use Rattle.std.specs.List.{AllByRecursion}
 use Rattle.std.proofs.ByRecursion.{All-get_or, All-from_get_or, Decides-by_and}
 use Rattle.std.proofs.lemmas.List.{get_or_past}
 use Rattle.std.proofs.lemmas.Bool.{cases_eq, cases_lt, cases_Bool, both_ways, and_parts, and_from, eq-eqb, eqb-true, le-leb, leb-true, not-true, not_from_false, or_cases, cond_both}
@@ -77,7 +77,7 @@ fits_decides n s = (
       (and_from (leb s.weight (most_weight * s.size)) (ltb s.lane lane_count) (le-leb s.weight (most_weight * s.size) h.most) ((Decides-ltb s.lane lane_count).1 h.lane))),
 )
 
-pub fit_decides : (n : ℕ) (xs : Ranks) → Decides (all_fit n xs) (All (λ x. fits_in n x ≡ true) xs)
+pub fit_decides : (n : ℕ) (xs : Ranks) → Decides (all_fit n xs) (AllByRecursion (λ x. fits_in n x ≡ true) xs)
 unfolding all_fit
 fit_decides n xs = Decides-by_and (fits_in n) (λ x. fits_in n x ≡ true) (all_fit n) (λ x. ((λ h. h), λ h. h)) refl (λ _ _. refl) xs
 

@@ -1,6 +1,6 @@
 -- What lanes tell of the packets that wait, and what a take leaves.
 use Rattle.std.proofs.Common.{◌≡◌, ℕ, ◌≤◌, false, List, [], ◌∷◌, set, Ok, Err, sym, refl, ap, ◌∙◌, ⊎_elim, arith}
-use Rattle.std.specs.List.{AllByRecursion as All}
+use Rattle.std.specs.List.{AllByRecursion}
 use Rattle.std.proofs.lemmas.List.{get_or_past, set_past}
 use Rattle.std.proofs.lemmas.Bool.{cases_lt, lt-ltb, le-ltb}
 use Rattle.table.specs.declared.refusal.Refusal.{Refusal}
@@ -17,7 +17,7 @@ taken_none : (q : List ℕ) (e : Refusal) → Err e ≡ taken (first_of q) → 0
 taken_none [] e is = refl
 taken_none (y ∷ q) e is = cc
 
-first_most : (q : List ℕ) → All Packet q → first q ≤ most_bytes
+first_most : (q : List ℕ) → AllByRecursion Packet q → first q ≤ most_bytes
 first_most [] all = omega arith
 first_most (y ∷ q) all = all.0.1
 

@@ -1,7 +1,7 @@
 -- Lanes with rings of their own, beside the queues that they mean.
 use Rattle.std.specs.Prelude.{◌≡◌, ℕ, ◌<◌, ◌≤◌, true, List, [], ◌∷◌, ◌++◌, map, length, Ok, Err, slice_set}
 use Rattle.std.proofs.Common.{sym, ap, subst, ◌∙◌, ⊎_elim, arith, lt-ltb, le-ltb}
-use Rattle.std.specs.List.{AllByRecursion as All}
+use Rattle.std.specs.List.{AllByRecursion}
 use Rattle.std.proofs.lemmas.List.{map-set, get_or-map, length-map, get_or_past}
 use Rattle.std.proofs.lemmas.Bool.{cases_lt}
 use Rattle.table.specs.Slots.{lane_count}
@@ -22,8 +22,8 @@ lanes_fit ls long packets = record {
   count = length-map ls held ∙ long;
   packets = λ k.
       ⊎_elim
-      (λ h. subst (All Packet) (sym (queue_of ls k (omega arith))) (all_packets_lem (held (lane_at ls k)) (packets k h)))
-      (λ past. subst (All Packet) (sym (get_or_past (map held ls) k [] (omega (arith, length-map ls held)))) tt)
+      (λ h. subst (AllByRecursion Packet) (sym (queue_of ls k (omega arith))) (all_packets_lem (held (lane_at ls k)) (packets k h)))
+      (λ past. subst (AllByRecursion Packet) (sym (get_or_past (map held ls) k [] (omega (arith, length-map ls held)))) tt)
       (cases_lt k lane_count);
 }
 

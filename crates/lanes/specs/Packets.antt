@@ -1,7 +1,7 @@
 -- Lists in which each is a packet, and what the queues of lanes become.
 use Rattle.std.specs.Prelude.{◌≡◌, ℕ, ◌<◌, true, List, [], ◌∷◌, ◌++◌, length, Some, None, Ok, Err, Option, slice_index_or, slice_set, refl}
 use Rattle.std.proofs.Common.{sym, ◌∙◌, arith, lt-ltb}
-use Rattle.std.specs.List.{AllByRecursion as All}
+use Rattle.std.specs.List.{AllByRecursion}
 use Rattle.std.proofs.ByRecursion.{All-get_or, All-from_get_or, All-set}
 use Rattle.std.proofs.lemmas.List.{length-set, set-get_or}
 use Rattle.std.proofs.lemmas.Bool.{and_parts, and_from, leb-true}
@@ -20,7 +20,7 @@ each_set P d xs i v n long each new k h =
 pub packet : (x : ℕ) → is_packet x ≡ true → Packet x
 packet x e = let p = and_parts _ _ e in (leb-true 1 x p.0, leb-true x most_bytes p.1)
 
-pub all_packets_lem : (xs : List ℕ) → all_packets xs ≡ true → All Packet xs
+pub all_packets_lem : (xs : List ℕ) → all_packets xs ≡ true → AllByRecursion Packet xs
 all_packets_lem [] e = tt
 all_packets_lem (x ∷ xs) e = let p = and_parts _ _ e in (packet x p.0, all_packets_lem xs p.1)
 

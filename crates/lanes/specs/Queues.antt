@@ -1,6 +1,6 @@
 -- What lanes are: for each lane the packets that wait in it, by their lengths, the first first.
 use Rattle.std.specs.Prelude.{◌≡◌, ℕ, ◌≤◌, Bool, true, cond, ◌&&◌, List, [], ◌∷◌, ◌++◌, length, replicate, Some, None, Ok, Err, Option, Result, nat_le, nat_lt, slice_index_or, slice_set}
-use Rattle.std.specs.List.{AllByRecursion as All}
+use Rattle.std.specs.List.{AllByRecursion}
 use Rattle.table.specs.declared.refusal.Refusal.{Refusal}
 use Rattle.table.specs.declared.refusal.Layer.TheVariants.{Lanes}
 use Rattle.table.specs.declared.refusal.Reason.{Reason}
@@ -32,7 +32,7 @@ queue qs lane = slice_index_or qs lane []
 -- what holds of the queues of all lanes
 pub record LanesFit (qs : List (List ℕ)) : Type 0 where
   pub count : length qs ≡ lane_count
-  pub packets : (lane : ℕ) → All Packet (queue qs lane)
+  pub packets : (lane : ℕ) → AllByRecursion Packet (queue qs lane)
 
 -- the first of a list, if there is one
 abbrev pub first_of : {X : Type 0} → List X → Option X

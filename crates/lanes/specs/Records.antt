@@ -1,6 +1,6 @@
 -- Captured records one after another, and the queues that they make.
 use Rattle.std.proofs.Common.{◌≡◌, ℕ, suc, ◌+◌, ◌-◌, ◌<◌, ◌≤◌, Bool, true, false, cond, ◌≢◌, List, [], ◌∷◌, map, length, get_or, set, filter, sym, refl, ap, ◌∙◌, subst, ⊎_elim, arith}
-use Rattle.std.specs.List.{range_with_len, AllByRecursion as All}
+use Rattle.std.specs.List.{range_with_len, AllByRecursion}
 use Rattle.std.proofs.lemmas.List.FromFn.{length-map-range_with_len, get_or-map-range_with_len}
 use Rattle.std.proofs.ByRecursion.{kept_by_passes, All-weaker, All-map}
 use Rattle.std.proofs.lemmas.List.{length-set, get_or-set_same, get_or-set_other, get_or_past, same_lists}
@@ -34,7 +34,7 @@ module _ (bs : List ℕ) (lane : ℕ) where
       let none : record_count bs - k ≡ 0 = omega arith in
       ap (λ n. map (length_of bs) (filter (is_for bs lane) (range_with_len k n))) none
 
-  captured_packets : (k : ℕ) → All Packet (packets_from bs k lane)
+  captured_packets : (k : ℕ) → AllByRecursion Packet (packets_from bs k lane)
   captured_packets k =
       let ks = range_with_len k (record_count bs - k) in
       All-map Packet (length_of bs) (filter (is_for bs lane) ks)
@@ -49,8 +49,8 @@ module _ (bs next : List ℕ) where
     count = length-map-range_with_len (waiting bs next) 0 lane_count;
     packets = λ lane.
         ⊎_elim
-        (λ h. subst (All Packet) (sym (queue_waiting lane h)) (captured_packets bs lane (get_or next lane 0)))
-        (λ past. subst (All Packet) (sym (get_or_past (map (waiting bs next) (range_with_len 0 lane_count)) lane [] (omega (arith, length-map-range_with_len (waiting bs next) 0 lane_count)))) tt)
+        (λ h. subst (AllByRecursion Packet) (sym (queue_waiting lane h)) (captured_packets bs lane (get_or next lane 0)))
+        (λ past. subst (AllByRecursion Packet) (sym (get_or_past (map (waiting bs next) (range_with_len 0 lane_count)) lane [] (omega (arith, length-map-range_with_len (waiting bs next) 0 lane_count)))) tt)
         (cases_lt lane lane_count);
   }
 

@@ -1,6 +1,6 @@
 -- What a change of the books along a path does to books and ports.
 use Rattle.std.proofs.Common.{◌≡◌, ℕ, zero, suc, ◌+◌, ◌-◌, ◌<◌, ◌≤◌, Bool, true, false, cond, not, ◌&&◌, ◌||◌, eqb, ltb, ◌⊎◌, List, [], ◌∷◌, ◌++◌, length, get_or, take, set, sym, refl, ap, ◌∙◌, subst, inl, inr, append_assoc, append-nil, arith, length-append, length-set}
-use Rattle.std.specs.List.{AllByRecursion as All}
+use Rattle.std.specs.List.{AllByRecursion}
 use Rattle.std.proofs.lemmas.List.{get_or-set_same, get_or-set_other, set-set, set-get_or, set-append_right}
 use Rattle.std.proofs.lemmas.Bool.{cond_both, cond-true, cond-false, cases_Bool, cases_eq, eqb-true, eqb-false, eq-eqb, ne_eqb, or_cases, or_parts, and_parts, both_ways, lt-ltb, ltb-true}
 use Rattle.table.specs.declared.slot.Slot.{Slot}
@@ -111,7 +111,7 @@ set_front [] zs old new = refl
 set_front (x ∷ front) zs old new = ap (λ ys. x ∷ ys) (set_front front zs old new)
 
 pub programmed_all : (p s : ℕ) (olds news front : List Slot) (ps : List Port) → p < length ps → (port_at ps p).«open» ≡ true → (port_at ps p).slots ≡ front ++ olds
-    → length front ≡ s → length olds ≡ length news → s + length olds ≤ slots → All (λ (c : Slot). c.lane < lane_count) news
+    → length front ≡ s → length olds ≡ length news → s + length olds ≤ slots → AllByRecursion (λ (c : Slot). c.lane < lane_count) news
     → programmed p s olds news ps ≡ with_slots ps p (front ++ news)
 programmed_all p s [] [] front ps inp open? is at same fits lanes =
     sym (ap (λ zs. with_slots ps p zs) (sym is) ∙ set-get_or ps p no_port)

@@ -1,6 +1,6 @@
 -- A history of which the premises hold, and worked bookings, by computation.
 use Rattle.std.proofs.Common.{◌≡◌, ℕ, zero, suc, ◌<◌, ◌≤◌, true, false, List, [], ◌∷◌, ◌++◌, length, get_or, replicate, refl, arith}
-use Rattle.std.specs.List.{AllByRecursion as All}
+use Rattle.std.specs.List.{AllByRecursion}
 use Rattle.table.specs.Reversal.{reversed}
 use Rattle.table.specs.Services.{spacing}
 use Rattle.lanes.specs.Queues.{queue, Packet, LanesFit}
@@ -12,7 +12,7 @@ use Rattle.manager.specs.Worlds.{Beginning, Sound, Genuine}
 use Rattle.manager.specs.Witness.{beginning, history, Witness}
 use Rattle.manager.specs.Bookings.{Bookings}
 
-none_fit : (n v : ℕ) → All Packet (queue (replicate n []) v)
+none_fit : (n v : ℕ) → AllByRecursion Packet (queue (replicate n []) v)
 none_fit zero v = tt
 none_fit (suc n) zero = tt
 none_fit (suc n) (suc v) = none_fit n v
@@ -20,7 +20,7 @@ none_fit (suc n) (suc v) = none_fit n v
 sound : Sound beginning
 sound = record { some = omega arith; most = omega arith; ports = refl; lanes = each }
   where
-    one_fits : (v : ℕ) → All Packet (queue ([] ∷ [] ∷ [] ∷ (200 ∷ []) ∷ replicate 11 []) v)
+    one_fits : (v : ℕ) → AllByRecursion Packet (queue ([] ∷ [] ∷ [] ∷ (200 ∷ []) ∷ replicate 11 []) v)
     one_fits zero = tt
     one_fits (suc zero) = tt
     one_fits (suc (suc zero)) = tt

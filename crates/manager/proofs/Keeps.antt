@@ -1,6 +1,6 @@
 -- A book keeps the sessions of a list: what the laws of books say of it.
 use Rattle.std.proofs.Common.{◌≡◌, ℕ, zero, suc, ◌+◌, ◌-◌, ◌*◌, ◌/◌, ◌%◌, ◌^◌, ◌<◌, ◌≤◌, max, Bool, true, false, cond, not, ◌&&◌, ◌||◌, eqb, ltb, leb, ◌⊎◌, ◌↔◌, List, [], ◌∷◌, map, length, get_or, Some, None, sum_by, Option, sym, refl, ap, ◌∙◌, subst, inl, inr, arith, pow_pos, MatchOption}
-use Rattle.std.specs.List.{range_with_len, AllByRecursion as All}
+use Rattle.std.specs.List.{range_with_len, AllByRecursion}
 use Rattle.std.proofs.lemmas.Nat.{mod-mul-add}
 use Rattle.std.proofs.lemmas.List.{get_or_past}
 use Rattle.std.proofs.lemmas.List.Sums.{sum_by-cons, get_or-le-sum_by}
@@ -142,14 +142,14 @@ module _ (x : Session) (ft : Fits bits x) where
   weights = carries (grant_of x) x.size (omega (arith, ft.size_is, pow_pos ft.level)) (omega arith) (omega (arith, ft.most, ft.size_is, pow_pos ft.level))
 
 -- no slot carries more than the most, and each slot's lane is one that ports have
-all_map : {X : Type 0} (P : X → Type 0) (f : ℕ → X) (ns : List ℕ) → ((n : ℕ) → P (f n)) → All P (map f ns)
+all_map : {X : Type 0} (P : X → Type 0) (f : ℕ → X) (ns : List ℕ) → ((n : ℕ) → P (f n)) → AllByRecursion P (map f ns)
 all_map P f [] h = tt
 all_map P f (n ∷ ns) h = (h n, all_map P f ns h)
 
 abbrev pub Proper : Slot → Type 0
 Proper c = (c.weight ≤ most_weight) × (c.lane < lane_count)
 
-pub proper : (b : Ranks) → Standing bits b → All Proper (contents bits b)
+pub proper : (b : Ranks) → Standing bits b → AllByRecursion Proper (contents bits b)
 unfolding contents
 proper b s = all_map Proper (slot_in bits b) (range_with_len 0 (2 ^ bits)) (λ z. at (reversed bits z))
   where

@@ -1,6 +1,6 @@
 -- What holds of the worked-out state after every history.
 use Rattle.std.proofs.Common.{◌≡◌, ℕ, zero, suc, ◌+◌, ◌-◌, ◌*◌, ◌<◌, ◌≤◌, Bool, true, false, cond, not, ◌&&◌, ◌||◌, eqb, ltb, leb, ◌⊎◌, List, [], ◌∷◌, ◌++◌, map, length, get_or, take, set, replicate, Some, Ok, Err, Result, sym, refl, ap, ◌∙◌, subst, inl, inr, arith, length-set}
-use Rattle.std.specs.List.{AllByRecursion as All}
+use Rattle.std.specs.List.{AllByRecursion}
 use Rattle.std.proofs.lemmas.List.{get_or-set_same, get_or-set_other, set-get_or, get_or-replicate, length-replicate, length-map, get_or-map}
 use Rattle.std.proofs.ByRecursion.{All-append}
 use Rattle.std.proofs.lemmas.Bool.{cond_both, cond-true, cond-false, cases_Bool, cases_eq, cases_lt, eq-eqb, ne_eqb, and_parts, both_ways, ltb-true, leb-true, not-true, or_parts}
@@ -94,7 +94,7 @@ queue_set qs u v x l = go (cases_eq u v)
 push_fits : (qs : List (List ℕ)) (v b : ℕ) → Packet b → LanesFit qs → LanesFit (set qs v (queue qs v ++ b ∷ []))
 push_fits qs v b h f = record {
   count = length-set qs v _ ∙ f.count;
-  packets = λ l. set_at (All Packet) qs v l (queue qs v ++ b ∷ []) (f.packets l) (All-append _ (queue qs v) (b ∷ []) (f.packets v) (h, tt));
+  packets = λ l. set_at (AllByRecursion Packet) qs v l (queue qs v ++ b ∷ []) (f.packets l) (All-append _ (queue qs v) (b ∷ []) (f.packets v) (h, tt));
 }
 
 pub kept_join : (count : ℕ) (w : World) (op : ℕ → Bool) (lv : ℕ → List Session) (qs : ℕ → ℕ → List ℕ) (q u b : ℕ) → q < count → u < lane_count → Packet b → Kept count w op lv qs
@@ -158,7 +158,7 @@ kept_same count w op lv lv' qs same k = record {
   queues = k.queues;
 }
 
-all_lanes : (xs : List Slot) → All Proper xs → All (λ (c : Slot). c.lane < lane_count) xs
+all_lanes : (xs : List Slot) → AllByRecursion Proper xs → AllByRecursion (λ (c : Slot). c.lane < lane_count) xs
 all_lanes [] h = tt
 all_lanes (x ∷ xs) h = (h.0.1, all_lanes xs h.1)
 
@@ -454,7 +454,7 @@ module _ (count : ℕ) (w : World) (op : ℕ → Bool) (lv : ℕ → List Sessio
       new_fits : LanesFit r.queues
       new_fits = record {
         count = took.1 ∙ (k.fits q inq).count;
-        packets = λ v. subst (All Packet) (sym (took.0 v)) (cond_both (sends_from v (Picked r.answer)) _ _ (All Packet) (λ e. rest_fits (queue old v) ((k.fits q inq).packets v)) (λ e. (k.fits q inq).packets v));
+        packets = λ v. subst (AllByRecursion Packet) (sym (took.0 v)) (cond_both (sends_from v (Picked r.answer)) _ _ (AllByRecursion Packet) (λ e. rest_fits (queue old v) ((k.fits q inq).packets v)) (λ e. (k.fits q inq).packets v));
       }
 
       fit : (p : ℕ) → p < count → (q ≡ p) ⊎ (q ≡ p → ⊥) → LanesFit (get_or (set w.waiting q r.queues) p [])

@@ -1,7 +1,7 @@
 -- One pick, and what it costs a lane that waits.
 use Rattle.std.proofs.Common.{◌≡◌, ℕ, zero, suc, ◌+◌, ◌-◌, ◌*◌, ◌/◌, ◌%◌, ◌<◌, ◌≤◌, min, Bool, true, false, cond, ◌&&◌, eqb, ltb, ◌⊎◌, List, [], ◌∷◌, ◌++◌, length, get_or, set, sym, refl, ap, ◌∙◌, subst, inl, inr, arith, length-set}
 use native.Mathlib.Nat.{mod-add-mod}
-use Rattle.std.specs.List.{AllByRecursion as All}
+use Rattle.std.specs.List.{AllByRecursion}
 use Rattle.std.proofs.lemmas.List.{get_or-set_other}
 use Rattle.std.proofs.ByRecursion.{All-append}
 use Rattle.std.proofs.lemmas.Bool.{ltb-true, lt-ltb, and_parts, and_from, cases_eq, cond-true, cond-false, cond_both, both_ways, eq-eqb, ne_eqb}
@@ -39,11 +39,11 @@ seek_all : {X : Type 0} (P : X → Type 0) (test : ℕ → Bool) (found : ℕ �
 seek_all P test found none j zero hit miss = miss
 seek_all P test found none j (suc k) hit miss = cond_both (test j) (found j) (seek test found none (j + 1) k) P (λ e. hit j) (λ e. seek_all P test found none (j + 1) k hit miss)
 
-first_fits : (q : List ℕ) → All Packet q → first q ≤ most_bytes
+first_fits : (q : List ℕ) → AllByRecursion Packet q → first q ≤ most_bytes
 first_fits [] h = omega arith
 first_fits (x ∷ q) h = h.0.1
 
-pub rest_fits : (q : List ℕ) → All Packet q → All Packet (rest q)
+pub rest_fits : (q : List ℕ) → AllByRecursion Packet q → AllByRecursion Packet (rest q)
 rest_fits [] h = tt
 rest_fits (x ∷ q) h = h.1
 
@@ -91,7 +91,7 @@ pub record Aim (table : List Slot) (v : ℕ) (at : Pointer) (qs : List (List ℕ
   pub far : d ≤ length table
   pub lane : (slot_on table (at.slot + d)).lane ≡ v
   pub weight : 0 < (slot_on table (at.slot + d)).weight
-  pub fits : (lane : ℕ) → All Packet (queue qs lane)
+  pub fits : (lane : ℕ) → AllByRecursion Packet (queue qs lane)
   pub waits : some (queue qs v) ≡ true
 
 -- a pick that does not take from lane v sends, and what it costs comes off the potential
@@ -110,7 +110,7 @@ sent_step table v at qs d e credit a l pos room missed = (
       far = omega (arith, a.far);
       lane = ap (λ (c : Slot). c.lane) on ∙ a.lane;
       weight = subst (λ (c : Slot). 0 < c.weight) (sym on) a.weight;
-      fits = λ i. set_at (All Packet) qs from i (rest q) (a.fits i) (rest_fits q (a.fits from));
+      fits = λ i. set_at (AllByRecursion Packet) qs from i (rest q) (a.fits i) (rest_fits q (a.fits from));
       waits = ap some (get_or-set_other qs from v (rest q) [] (λ p. miss (sym p))) ∙ a.waits;
     },
     omega (arith, pays credit (usable table (sent table at qs e credit).pointer) (cost (first q)) pos (omega arith) (omega (arith, short)), room before),
@@ -155,6 +155,6 @@ join_step table v at qs d i b h a = record {
   far = a.far;
   lane = a.lane;
   weight = a.weight;
-  fits = λ l. set_at (All Packet) qs i l (queue qs i ++ b ∷ []) (a.fits l) (All-append _ (queue qs i) (b ∷ []) (a.fits i) (h, tt));
+  fits = λ l. set_at (AllByRecursion Packet) qs i l (queue qs i ++ b ∷ []) (a.fits l) (All-append _ (queue qs i) (b ∷ []) (a.fits i) (h, tt));
   waits = set_at (λ q. some q ≡ true) qs i v (queue qs i ++ b ∷ []) a.waits (some_push (queue qs i) b);
 }

@@ -1,7 +1,7 @@
 -- The bound on waiting, over a history.
 use Rattle.std.proofs.Common.{◌≡◌, ℕ, zero, suc, ◌+◌, ◌-◌, ◌*◌, ◌/◌, ◌%◌, ◌<◌, ◌≤◌, Bool, true, false, cond, not, ◌&&◌, ◌||◌, eqb, ltb, ◌⊎◌, List, [], ◌∷◌, ◌++◌, map, length, get_or, set, Ok, Err, Result, sym, refl, ap, ◌∙◌, subst, inl, inr, mod-lt, mod-eq_of_lt, div-add-mod', arith}
 use native.Mathlib.Nat.{mod-mod_of_dvd, dvd_of_mod-eq-zero}
-use Rattle.std.specs.List.{AllByRecursion as All}
+use Rattle.std.specs.List.{AllByRecursion}
 use Rattle.std.proofs.lemmas.List.{get_or-set_same, get_or-set_other, get_or-map, length-map}
 use Rattle.std.proofs.ByRecursion.{All-get_or}
 use Rattle.std.proofs.lemmas.Nat.{mod-mul-add, mod_below}
@@ -281,7 +281,7 @@ waiting_holds b s later earlier g g0 p inp i l waiting u m = (r.1, omega (arith,
     long = ap length (k.slots_are p inp) ∙ contents_length book
 
     small : (n : ℕ) → (slot_on table n).weight ≤ most_weight
-    small n = (All-get_or Proper table (n % length table) empty_slot (mod-lt n (omega (arith, long))) (subst (All Proper) (sym (k.slots_are p inp)) (proper book is.stands))).0
+    small n = (All-get_or Proper table (n % length table) empty_slot (mod-lt n (omega (arith, long))) (subst (AllByRecursion Proper) (sym (k.slots_are p inp)) (proper book is.stands))).0
 
     spacing_at : get_or (spacings bits (live earlier p)) i 0 ≡ t
     spacing_at = get_or-map (spacing_of bits) (live earlier p) i no_session 0 l
