@@ -4,7 +4,6 @@ use bank::record::RecordBank;
 use fabric::declined::Declined;
 use fabric::fabric::Fabric;
 use std::process::Abort;
-use std::test::Fail;
 
 #[derive(Clone, Copy)]
 enum Ask {
@@ -188,21 +187,20 @@ fn answer(fabric: &mut Fabric, bank: &mut RecordBank, ask: Ask) -> Said {
     }
 }
 
-fn run(rt: &impl Abort, script: &[(Ask, Said)]) -> Result<(), Fail> {
+fn run(rt: &impl Abort, name: &'static str, script: &[(Ask, Said)]) {
     let mut bank = RecordBank::new(4);
     let mut fabric = Fabric::new();
-    assert!(rt; fabric.start(&mut bank).is_ok());
+    assert!(rt; fabric.start(&mut bank).is_ok(), "{name}");
     for k in 0..script.len() {
         let (ask, want) = script[k];
-        assert_eq!(rt; answer(&mut fabric, &mut bank, ask), want, "{}", k);
+        assert_eq!(rt; answer(&mut fabric, &mut bank, ask), want, "{name} {k}");
     }
-    Ok(())
 }
 
 #[test]
-fn runs(rt: HostRuntime) -> Result<(), Fail> {
-    run(&rt, &DAY).note("day")?;
-    run(&rt, &WEIGHTS).note("weights")?;
-    run(&rt, &EIGHT).note("eight")?;
-    run(&rt, &DISTANCES).note("distances")
+fn runs(rt: HostRuntime) {
+    run(&rt, "day", &DAY);
+    run(&rt, "weights", &WEIGHTS);
+    run(&rt, "eight", &EIGHT);
+    run(&rt, "distances", &DISTANCES);
 }

@@ -175,8 +175,7 @@ fn follow(rt: &impl Abort, steps: &[(Step, Came)]) {
         assert_eq!(rt;
             outcome(&mut fabric, &mut bank, &mut lanes, step),
             want,
-            "{}",
-            k
+            "{k}"
         );
     }
 }

@@ -190,8 +190,8 @@ fn follow(rt: &impl Abort, turns: &[(Turn, &'static str)]) {
     let mut book = Book::new();
     for k in 0..turns.len() {
         let (turn, picture) = turns[k];
-        assert!(rt; made(&mut book, turn), "{}", k);
-        assert!(rt; shows(&book.contents(), picture.as_bytes()), "{}", picture);
+        assert!(rt; made(&mut book, turn), "{k}");
+        assert!(rt; shows(&book.contents(), picture.as_bytes()), "{picture}");
     }
 }
 
