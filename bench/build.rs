@@ -3,12 +3,12 @@ use std::env;
 use std::path::Path;
 use std::process::Command;
 
-/// The folder of the toolchain's libraries, beside that of its guide.
+/// The folder of the toolchain's C libraries, beside the page that `rt doc` names.
 fn toolchain() -> String {
-    let guide = Command::new("rt").arg("doc").output().expect("rt is on the PATH").stdout;
-    let guide = String::from_utf8(guide).expect("a path");
-    let kit = Path::new(guide.trim()).ancestors().nth(2).expect("the guide lies in a folder of the toolchain");
-    format!("{}/lib", kit.display())
+    let page = Command::new("rt").arg("doc").output().expect("rt is on the PATH").stdout;
+    let page = String::from_utf8(page).expect("a path");
+    let kit = Path::new(page.trim()).parent().expect("the page lies in the toolchain's folder");
+    format!("{}/c", kit.display())
 }
 
 fn main() {
@@ -18,11 +18,12 @@ fn main() {
         return;
     }
     let root = env::var("CARGO_MANIFEST_DIR").unwrap();
-    let dir = env::var("PRODUCT_LIB_DIR").unwrap_or(format!("{root}/../target/staticlib"));
+    let dir = env::var("PRODUCT_LIB_DIR").unwrap_or(format!("{root}/../crates/runner/out"));
     let name = env::var("PRODUCT_LIB").unwrap_or("runner".to_string());
     println!("cargo:rerun-if-changed={dir}/lib{name}.a");
     println!("cargo:rustc-link-search=native={dir}");
     println!("cargo:rustc-link-lib=static={name}");
     println!("cargo:rustc-link-search=native={}", toolchain());
-    println!("cargo:rustc-link-lib=static=rattle_c");
+    println!("cargo:rustc-link-lib=static=os_c");
+    println!("cargo:rustc-link-lib=static=libc_c");
 }
