@@ -1,19 +1,18 @@
 -- A book has room for a session exactly where its sessions and the new one together have an even placement.
-use Rattle.std.proofs.Common.{◌≡◌, ℕ, zero, suc, ◌+◌, ◌-◌, ◌*◌, ◌/◌, ◌%◌, ◌^◌, ◌<◌, ◌≤◌, Bool, true, false, leb, ◌⊎◌, ◌↔◌, List, [], ◌∷◌, length, get_or, Some, None, sum_by, Option, sym, refl, ap, ◌∙◌, subst, inl, inr, arith, pow_pos, pow-add, MatchOption}
+use Rattle.std.proofs.Common.{◌≡◌, ℕ, suc, ◌+◌, ◌-◌, ◌*◌, ◌/◌, ◌%◌, ◌^◌, ◌<◌, ◌≤◌, leb, List, [], ◌∷◌, length, get_or, Some, None, sum_by, Option, sym, refl, ap, ◌∙◌, subst, inl, inr, arith, pow_pos}
 use Rattle.std.specs.List.{AllByRecursion}
 use Rattle.std.proofs.lemmas.Nat.{mod-mul-add}
 use Rattle.std.proofs.ByRecursion.{All-from_get_or}
 use Rattle.std.proofs.lemmas.List.{get_or_past}
 use Rattle.std.proofs.lemmas.List.Sums.{sum_by-cons, get_or-le-sum_by}
 use Rattle.std.proofs.lemmas.Bool.{cases_lt, leb-true, le-leb}
-use Rattle.table.specs.Slots.{most_weight, lane_count}
 use Rattle.book.specs.declared.session.Session.{Session}
 use Rattle.book.specs.Entries.{Ranks}
-use Rattle.book.specs.Books.{free_ranks, place_for, filled, contents}
+use Rattle.book.specs.Books.{free_ranks, place_for, filled}
 use Rattle.book.specs.Standing.{Fits, Standing}
 use Rattle.book.specs.Sessions.{sessions_of, SameSessions, spacing_of, spacings}
-use Rattle.book.specs.Even.{Even, Placeable}
-use Rattle.book.specs.Laws.{InBook, Refused, Taken, FillLaw, RoomLaw, no_session}
+use Rattle.book.specs.Even.{Placeable}
+use Rattle.book.specs.Laws.{InBook, FillLaw, RoomLaw, no_session}
 use Rattle.book.proofs.Keeping.{free_and_held, filled_stands, fill_law}
 use Rattle.book.proofs.Pigeon.{pigeonhole}
 use Rattle.book.proofs.Spots.{apart_pow, placed_law, fit_at, split_pow}

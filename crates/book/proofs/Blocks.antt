@@ -1,18 +1,16 @@
 -- Exchanges of entries in a row, and the sizes and numbers of sets.
-use Rattle.std.proofs.Common.{◌≡◌, ℕ, zero, suc, ◌+◌, ◌-◌, ◌*◌, ◌/◌, ◌%◌, ◌^◌, ◌<◌, ◌≤◌, Bool, ◌⊎◌, ◌↔◌, List, length, get_or, Some, None, Decides, Option, sym, refl, ap, ◌∙◌, subst, inl, inr, div-mul-le_self, arith, pow_pos, pow_mono}
-use Rattle.std.proofs.lemmas.Bool.{cases_eq, cases_lt}
-use Rattle.book.specs.declared.session.Session.{Session}
+use Rattle.std.proofs.Common.{◌≡◌, ℕ, zero, suc, ◌+◌, ◌-◌, ◌*◌, ◌/◌, ◌%◌, ◌^◌, ◌<◌, ◌≤◌, Bool, ◌⊎◌, ◌↔◌, length, get_or, None, Decides, sym, ap, ◌∙◌, inl, inr, div-mul-le_self, arith, pow_pos, pow_mono}
+use Rattle.std.proofs.lemmas.Bool.{cases_eq}
 use Rattle.book.proofs.Views.{Swapped}
-use Rattle.book.specs.Entries.{size_at, size_of, Ranks}
+use Rattle.book.specs.Entries.{Ranks}
 use Rattle.book.specs.Levels.{up, dbl, sw, Free}
-use Rattle.book.specs.Sound.{FreeSet, FreeRank, Holds}
-use lib.Pow.{pow-lt}
+use Rattle.book.specs.Sound.{FreeSet, FreeRank}
 use Rattle.std.proofs.lemmas.Bool.Decides.{Decides-like}
 use Rattle.std.proofs.lemmas.Nat.{one_shl, le-div, mul-le}
-use Rattle.book.proofs.Counts.{dbl_pow, dbl_mono}
+use Rattle.book.proofs.Counts.{dbl_pow}
 use Rattle.book.proofs.Levels.{tr_left, tr_right}
 use Rattle.book.proofs.Doubles.{dbl_two, dbl_add}
-use Rattle.book.proofs.Places.{in_set, set_in, size_pow, free_all, all_free, dbl_pos}
+use Rattle.book.proofs.Places.{in_set, set_in, size_pow, free_all, all_free}
 use Rattle.book.proofs.Swaps.{sw_fix}
 
 -- one more pair is exchanged

@@ -1,10 +1,9 @@
 -- A session takes a free set, or lets go of its own: the sets stay disjoint, and which ranks are free then.
-use Rattle.std.proofs.Common.{◌≡◌, ℕ, zero, suc, ◌+◌, ◌-◌, ◌*◌, ◌/◌, ◌%◌, ◌^◌, ◌<◌, ◌≤◌, min, ◌⊎◌, ◌↔◌, sym, refl, ap, ◌∙◌, subst, inl, inr, arith}
-use Rattle.std.proofs.lemmas.Bool.{cases_eq, cases_lt}
-use Rattle.book.specs.Levels.{up, dbl, Free, Whole, Differ, Grow}
+use Rattle.std.proofs.Common.{◌≡◌, ℕ, ◌+◌, ◌<◌, sym, refl, ap, ◌∙◌, subst, inl, inr, arith}
+use Rattle.std.proofs.lemmas.Bool.{cases_eq}
+use Rattle.book.specs.Levels.{up, dbl, Free}
 use Rattle.book.specs.Sound.{Holds, FreeRank, Set, Sound}
-use Rattle.book.proofs.Views.{total}
-use Rattle.book.proofs.Places.{in_set, set_in, size_pow, set_index, index_set, dbl_pos, all_free, within}
+use Rattle.book.proofs.Places.{set_in, index_set, dbl_pos, all_free, within}
 use Rattle.book.proofs.Swaps.{held_up, up_held, below}
 
 -- A session takes the free set q of level j.

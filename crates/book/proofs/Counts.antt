@@ -1,10 +1,9 @@
 -- How many sets are free at each level: where whole free sets differ in size, so many free ranks give a free set.
-use Rattle.std.proofs.Common.{◌≡◌, ℕ, zero, suc, ◌+◌, ◌-◌, ◌*◌, ◌/◌, ◌%◌, ◌^◌, ◌<◌, ◌≤◌, Bool, true, false, cond, ◌&&◌, ◌≢◌, ◌⊎◌, sym, refl, ap, ◌∙◌, subst, inl, inr, mul_assoc, mul_comm, mul-le-mul_left, one-mul, pow-suc, mul-add, arith}
-use native.Mathlib.Nat.{pow-zero, pow-succ'}
-use Rattle.std.proofs.lemmas.Bool.{cases_eq, cases_lt, cases_Bool, and_from, and_parts, and_cases, both_ways}
-use Rattle.book.specs.Levels.{up, Free, Whole, Differ, dbl}
+use Rattle.std.proofs.Common.{◌≡◌, ℕ, zero, suc, ◌+◌, ◌*◌, ◌/◌, ◌^◌, ◌<◌, ◌≤◌, Bool, true, false, cond, ◌&&◌, ◌⊎◌, sym, refl, ap, ◌∙◌, subst, inl, inr, mul_assoc, mul_comm, arith}
+use native.Mathlib.Nat.{pow-succ'}
+use Rattle.std.proofs.lemmas.Bool.{cases_eq, cases_lt, cases_Bool, and_from, and_parts, both_ways}
+use Rattle.book.specs.Levels.{Free, Whole, Differ, dbl}
 use Rattle.book.specs.Searches.{count}
-use Rattle.book.proofs.Levels.{both}
 
 -- the sets of level i that are free, as a test
 abbrev pub freeb : (ℕ → Bool) → ℕ → ℕ → Bool

@@ -1,26 +1,25 @@
 -- The tests of sets decide what they test.
-use Rattle.std.proofs.Common.{◌≡◌, ℕ, zero, suc, ◌+◌, ◌-◌, ◌*◌, ◌/◌, ◌%◌, ◌^◌, ◌<◌, ◌≤◌, Bool, true, false, cond, not, ◌&&◌, ◌||◌, eqb, ltb, leb, ◌⊎◌, List, [], ◌∷◌, map, length, get_or, set, Some, None, Decides, Option, sym, refl, ap, ◌∙◌, subst, inl, inr, arith, pow_pos, MatchOption}
+use Rattle.std.proofs.Common.{◌≡◌, ℕ, zero, suc, ◌+◌, ◌-◌, ◌*◌, ◌/◌, ◌^◌, ◌<◌, ◌≤◌, Bool, true, false, not, ◌&&◌, eqb, ltb, leb, ◌⊎◌, [], ◌∷◌, length, get_or, Some, None, Decides, sym, refl, ap, ◌∙◌, subst, inl, inr, arith, pow_pos, MatchOption}
 use lib.ListN.{get_or-eq_default}
-use Rattle.std.specs.List.{range_with_len, swap}
+use Rattle.std.specs.List.{swap}
 use Rattle.std.specs.List.Sorted.{IsPermutation}
 use Rattle.std.proofs.lemmas.List.Edits.{swapped_from_swap, length-swap}
 use Rattle.std.proofs.lemmas.List.Sorted.{IsPermutation-refl, IsPermutation-trans, IsPermutation-swap}
 use Rattle.std.proofs.lemmas.List.FromFn.{length-map-range_with_len, get_or-map-range_with_len, fill_by_all}
-use Rattle.std.proofs.lemmas.Bool.{cases_eq, cases_lt, cases_Bool, both_ways, not-true, not_from_false, not_from_true, and_parts, and_from, and_left, and_right, leb-true, le-leb, cond-true, cond-false, cond_both, ltb-true}
-use Rattle.std.proofs.lemmas.Bool.Decides.{nat_tests, Decides-like, Decides-and, Decides-not, Decides-ltb, Decides-eqb}
-use Rattle.book.specs.declared.session.Session.{Session}
+use Rattle.std.proofs.lemmas.Bool.{cases_eq, cases_lt, cases_Bool, both_ways, not-true, not_from_false, not_from_true, and_parts, and_from, and_left, and_right, leb-true, le-leb, cond-true, cond-false, cond_both}
+use Rattle.std.proofs.lemmas.Bool.Decides.{nat_tests, Decides-and, Decides-not, Decides-ltb, Decides-eqb}
 use Rattle.book.specs.Levels.{up, dbl, Free, Whole, FreeIn}
-use Rattle.book.specs.Sound.{FreeRank, FreeSet, Holds}
+use Rattle.book.specs.Sound.{FreeSet}
 use Rattle.book.proofs.Views.{Swapped, Loose}
 use Rattle.book.specs.Entries.{size_at, size_of, Ranks}
 use Rattle.book.specs.Sets.{FreeSets, meets, clear_from, clear, is_free, whole_by, is_whole, lowest_free}
-use Rattle.book.specs.Searches.{first_from, last_below}
-use Rattle.book.specs.Moves.{other_whole, climb_by, climb, whole_around, loose_rank, source, exchanged}
+use Rattle.book.specs.Searches.{last_below}
+use Rattle.book.specs.Moves.{other_whole, climb_by, climb, loose_rank, source, exchanged}
 use Rattle.book.proofs.Found.{cases_map, first_cases, last_cases, last_skip, last_hit}
 use Rattle.book.proofs.Places.{within, size_pow}
 use Rattle.book.proofs.Counts.{dbl_pow}
 use Rattle.book.proofs.Blocks.{decides_set, sets_count, swapped_more}
-use Rattle.book.proofs.Steps.{top_whole, level_in, up_pow, parent_in, rank_in, sets_apart}
+use Rattle.book.proofs.Steps.{top_whole, up_pow, parent_in, rank_in, sets_apart}
 
 -- Sets by their first rank and size, and by halves and doubles.
 pub firsts : (i q : ℕ) → q * 2 ^ i ≡ dbl i q

@@ -1,9 +1,6 @@
 -- Doubling and halving numbers i times.
-use Rattle.std.proofs.Common.{◌≡◌, ℕ, zero, suc, ◌+◌, ◌-◌, ◌*◌, ◌/◌, ◌%◌, ◌^◌, ◌<◌, ◌≤◌, ◌⊎◌, ◌↔◌, sym, refl, ap, ◌∙◌, subst, inl, inr, mul_comm, pow-suc, arith, pow_pos}
-use lib.Arith.{mod-mul}
+use Rattle.std.proofs.Common.{◌≡◌, ℕ, zero, suc, ◌+◌, ◌*◌, ◌/◌, ◌<◌, refl, ap, ◌∙◌, arith}
 use Rattle.book.specs.Levels.{up, dbl}
-use Rattle.book.proofs.Levels.{up_half}
-use Rattle.book.proofs.Counts.{dbl_mono, dbl_pow}
 
 pub dbl_add : (i a b : ℕ) → dbl i (a + b) ≡ dbl i a + dbl i b
 dbl_add zero a b = refl

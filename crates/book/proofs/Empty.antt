@@ -1,7 +1,7 @@
 -- A book without sessions.
-use Rattle.std.proofs.Common.{◌≡◌, ℕ, suc, ◌+◌, ◌-◌, ◌/◌, ◌^◌, ◌<◌, ◌≤◌, sym, ap, ◌∙◌, inl, inr, arith}
+use Rattle.std.proofs.Common.{◌≡◌, ℕ, suc, ◌-◌, ◌/◌, ◌<◌, sym, ap, ◌∙◌, inl, inr, arith}
 use Rattle.std.proofs.lemmas.Bool.{cases_eq, cases_lt}
-use Rattle.book.specs.Levels.{up, dbl, Free, Whole, Grow}
+use Rattle.book.specs.Levels.{up, dbl, Whole, Grow}
 use Rattle.book.specs.Sound.{FreeRank, Sound, Ordered}
 use Rattle.book.proofs.Levels.{up_half, up_up}
 use Rattle.book.proofs.Doubles.{up_below}

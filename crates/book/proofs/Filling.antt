@@ -1,9 +1,9 @@
 -- The lowest free set of a size is taken: the whole free sets still grow from left to right.
-use Rattle.std.proofs.Common.{◌≡◌, ℕ, zero, suc, ◌+◌, ◌-◌, ◌*◌, ◌/◌, ◌%◌, ◌^◌, ◌<◌, ◌≤◌, Bool, true, false, cond, ◌&&◌, ◌⊎◌, sym, refl, ap, ◌∙◌, subst, inl, inr, arith}
-use Rattle.std.proofs.lemmas.Bool.{cases_eq, cases_lt, cases_Bool, both_ways}
-use Rattle.book.specs.Levels.{up, Free, Whole, Differ, Grow, dbl}
-use Rattle.book.proofs.Levels.{both, down, down_one, over, up_up, up_half, up_mono, parity}
-use Rattle.book.proofs.Counts.{freeb, Is, free_true, true_free, dbl_mono}
+use Rattle.std.proofs.Common.{◌≡◌, ℕ, zero, suc, ◌+◌, ◌-◌, ◌*◌, ◌/◌, ◌<◌, ◌≤◌, ◌⊎◌, sym, refl, ap, ◌∙◌, subst, inl, inr, arith}
+use Rattle.std.proofs.lemmas.Bool.{cases_eq, cases_lt}
+use Rattle.book.specs.Levels.{up, Free, Whole, Grow, dbl}
+use Rattle.book.proofs.Levels.{down, over, up_up, up_half, up_mono}
+use Rattle.book.proofs.Counts.{dbl_mono}
 
 pub up_dbl : (i q : ℕ) → up i (dbl i q) ≡ q
 up_dbl zero q = refl

@@ -1,5 +1,5 @@
 -- A set becomes free: all whole free sets but the one around it still differ in size. And what ordering begins and ends with.
-use Rattle.std.proofs.Common.{◌≡◌, ℕ, zero, suc, ◌+◌, ◌-◌, ◌*◌, ◌/◌, ◌%◌, ◌^◌, ◌<◌, ◌≤◌, ◌⊎◌, sym, refl, ap, ◌∙◌, subst, inl, inr, arith}
+use Rattle.std.proofs.Common.{◌≡◌, ℕ, zero, suc, ◌+◌, ◌-◌, ◌*◌, ◌/◌, ◌<◌, ◌≤◌, ◌⊎◌, sym, refl, ap, ◌∙◌, subst, inl, inr, arith}
 use Rattle.std.proofs.lemmas.Bool.{cases_eq, cases_lt}
 use Rattle.book.specs.Levels.{up, Free, Whole, Differ, Grow, Others, GrowFrom, dbl}
 use Rattle.book.proofs.Levels.{down, over, one_around, up_up, up_half, up_mono}

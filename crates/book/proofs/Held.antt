@@ -3,7 +3,7 @@ use Rattle.std.proofs.Common.{◌≡◌, ℕ, zero, suc, ◌+◌, ◌-◌, ◌*�
 use lib.Pow.{pow-lt}
 use native.Mathlib.Nat.{mod-le}
 use Rattle.std.proofs.lemmas.Nat.{mul-le}
-use Rattle.std.proofs.lemmas.Bool.{cases_eq, cases_Bool, both_ways, le-leb, lt-leb, eqb-true, eq-eqb, ne_eqb, leb-true, cond-true, cond-false, not-true, not-false, not_from_true, not_from_false}
+use Rattle.std.proofs.lemmas.Bool.{cases_eq, cases_Bool, both_ways, le-leb, lt-leb, eqb-true, eq-eqb, ne_eqb, leb-true, cond-true, cond-false, not-false, not_from_true}
 use Rattle.std.proofs.lemmas.Bool.Decides.{same_from_decides}
 use Rattle.book.specs.declared.session.Session.{Session}
 use Rattle.book.specs.Entries.{Ranks, size_of, size_at, place_of, holds}

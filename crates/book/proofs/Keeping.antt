@@ -1,6 +1,5 @@
 -- Fill-in and release keep what every book keeps, and its sessions.
-use Rattle.std.proofs.Common.{◌≡◌, ℕ, zero, suc, ◌+◌, ◌-◌, ◌*◌, ◌/◌, ◌%◌, ◌^◌, ◌<◌, ◌≤◌, Bool, true, false, cond, not, ◌&&◌, eqb, ◌⊎◌, List, [], ◌∷◌, length, get_or, set, replicate, is_some, Some, None, sum_by, Option, sym, refl, ap, ◌∙◌, subst, inl, inr, arith, length-set, pow_pos, MatchOption}
-use native.Mathlib.Nat.{mul-mod_left}
+use Rattle.std.proofs.Common.{◌≡◌, ℕ, zero, suc, ◌+◌, ◌-◌, ◌*◌, ◌^◌, ◌<◌, ◌≤◌, true, false, cond, not, ◌&&◌, eqb, ◌⊎◌, [], ◌∷◌, length, get_or, set, replicate, is_some, Some, None, sum_by, Option, sym, refl, ap, ◌∙◌, subst, inl, inr, arith, length-set, pow_pos, MatchOption}
 use lib.ListN.{length-replicate}
 use Rattle.std.specs.List.Sorted.{IsPermutation}
 use Rattle.std.specs.List.{AllByRecursion}
@@ -23,7 +22,7 @@ use Rattle.book.specs.Sound.{FreeRank, Set, FreeSet, Sound, Ordered, Distinct}
 use Rattle.book.specs.Levels.{Free, FreeIn, up, dbl}
 use Rattle.book.specs.Standing.{Fits, Standing}
 use Rattle.book.specs.Sessions.{sessions_of, without, SameSessions}
-use Rattle.book.specs.Laws.{InBook, Taken, Refused, FillLaw, Ended}
+use Rattle.book.specs.Laws.{InBook, Taken, FillLaw, Ended}
 use Rattle.book.proofs.Views.{total}
 use Rattle.book.proofs.Empty.{empty_sound, empty_ordered}
 use Rattle.book.proofs.Found.{first_cases}
@@ -35,8 +34,8 @@ use Rattle.book.proofs.Totals.{total_kept}
 use Rattle.book.proofs.Decided.{firsts, is_free_decides, lowest_free_cases}
 use Rattle.book.proofs.Moved.{released_set_keeps}
 use Rattle.book.proofs.Numbers.{place_holds}
-use Rattle.book.proofs.Placed.{Place, place_found, level_found, filled_at, filled_none}
-use Rattle.book.proofs.Tested.{Once, Tested, standing, tested, fits_decides, level_is, holds_at, at_holds}
+use Rattle.book.proofs.Placed.{Place, place_found, filled_at, filled_none}
+use Rattle.book.proofs.Tested.{standing, tested, fits_decides, level_is, holds_at, at_holds}
 use Rattle.book.proofs.Sums.{opt, only, called, sum_sessions, sum_without, only_none, holds_none, once_count, sum_one}
 
 some_none : {A X : Type 0} (x : X) → Some x ≡ None → A

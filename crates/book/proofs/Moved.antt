@@ -1,20 +1,19 @@
 -- What joining and ordering keep, and that they end in order.
-use Rattle.std.proofs.Common.{◌≡◌, ℕ, zero, suc, ◌+◌, ◌-◌, ◌*◌, ◌/◌, ◌%◌, ◌^◌, ◌<◌, ◌≤◌, Bool, true, false, cond, not, eqb, ltb, leb, ◌⊎◌, List, length, set, Some, None, Option, sym, refl, ap, ◌∙◌, subst, inl, inr, pow-suc, arith, length-set, pow_pos, MatchOption}
+use Rattle.std.proofs.Common.{◌≡◌, ℕ, zero, suc, ◌+◌, ◌-◌, ◌*◌, ◌/◌, ◌%◌, ◌^◌, ◌<◌, ◌≤◌, cond, eqb, ltb, length, set, Some, None, sym, refl, ap, ◌∙◌, subst, inl, inr, arith, length-set}
 use Rattle.std.specs.List.Sorted.{IsPermutation}
 use Rattle.std.proofs.lemmas.List.Sorted.{IsPermutation-refl, IsPermutation-trans, length_permutation}
-use Rattle.std.proofs.lemmas.Bool.{cases_eq, cases_lt, cond_both, cond-true, cond-false, ltb-true, ltb-false, lt-ltb, le-ltb, lt-leb}
+use Rattle.std.proofs.lemmas.Bool.{cases_eq, cond_both, cond-true, cond-false, ltb-true, ltb-false, lt-ltb, le-ltb}
 use Rattle.std.proofs.lemmas.Bool.Decides.{nat_tests}
-use Rattle.book.specs.declared.session.Session.{Session}
 use Rattle.book.specs.Levels.{up, dbl, Free, Whole, Differ, Others, GrowFrom, FreeIn}
 use Rattle.book.specs.Sound.{Sound, Ordered}
-use Rattle.book.proofs.Views.{Swapped, Loose}
+use Rattle.book.proofs.Views.{Swapped}
 use Rattle.book.specs.Entries.{size_at, Ranks}
 use Rattle.book.specs.Moves.{brother, whole_around, other_whole, exchanged, exchanged_sets, joining, joined, loose_rank, ordered_at, ordering, ordered, released_set}
 use Rattle.book.specs.Searches.{when_some}
 use Rattle.book.proofs.Found.{when_some_by}
-use Rattle.book.proofs.Places.{within, dbl_pos, table, grow_ordered, size_pow}
+use Rattle.book.proofs.Places.{within, dbl_pos, table, grow_ordered}
 use Rattle.book.proofs.Freeing.{others_differ, order_top, order_end}
-use Rattle.book.proofs.Steps.{level_in, index_in, in_table, sets_apart, rank_in, dbl_grows, session_at, gone_sound, gone_free, gone_others, join_low, join_in, join_apart, joined_sound, joined_free, joined_again, ordered_sound, ordered_differ, ordered_from, skip_none, skip_loose, skip_left}
+use Rattle.book.proofs.Steps.{in_table, sets_apart, rank_in, dbl_grows, session_at, gone_sound, gone_free, gone_others, join_low, join_in, join_apart, joined_sound, joined_free, joined_again, ordered_sound, ordered_differ, ordered_from, skip_none, skip_loose, skip_left}
 use Rattle.book.proofs.Decided.{firsts, sizes, inside, around, exchanged_swapped, exchanged_shuffled, climb_whole, other_whole_cases, loose_rank_cases, other_found}
 
 pub brother_near : (o : ℕ) → brother o / 2 ≡ o / 2

@@ -1,15 +1,15 @@
 -- Sets by first rank and size are sets by level and index.
-use Rattle.std.proofs.Common.{◌≡◌, ℕ, zero, suc, ◌+◌, ◌-◌, ◌*◌, ◌/◌, ◌%◌, ◌^◌, ◌<◌, ◌≤◌, ◌⊎◌, ◌↔◌, sym, refl, ap, ◌∙◌, subst, inl, inr, mul_assoc, mul_comm, pow-suc, div-add-mod', arith, pow_pos}
+use Rattle.std.proofs.Common.{◌≡◌, ℕ, zero, suc, ◌+◌, ◌-◌, ◌*◌, ◌/◌, ◌%◌, ◌^◌, ◌<◌, ◌≤◌, sym, ap, ◌∙◌, subst, inl, inr, div-add-mod', arith, pow_pos}
 use native.Mathlib.Nat.{mul-mod_left}
 use lib.Pow.{pow-lt}
-use Rattle.std.proofs.lemmas.Bool.{cases_eq, cases_lt}
+use Rattle.std.proofs.lemmas.Bool.{cases_lt}
 use Rattle.book.specs.Levels.{up, dbl, Free, Whole, Grow, Differ}
-use Rattle.book.specs.Sound.{Holds, FreeRank, Set, FreeSet, WholeSet, Sound, Ordered, Distinct}
-use Rattle.book.proofs.Levels.{up_half, up_up, up_mono, down, over}
+use Rattle.book.specs.Sound.{FreeRank, Set, WholeSet, Ordered, Distinct}
+use Rattle.book.proofs.Levels.{up_up, up_mono, down, over}
 use Rattle.book.proofs.Counts.{dbl_mono, dbl_pow}
-use Rattle.book.proofs.Filling.{up_dbl, free_first}
+use Rattle.book.proofs.Filling.{up_dbl}
 use Rattle.book.proofs.Freeing.{fill_free}
-use Rattle.book.proofs.Doubles.{dbl_two, dbl_add, dbl_dbl, up_below}
+use Rattle.book.proofs.Doubles.{dbl_two, dbl_add, dbl_dbl}
 
 -- a rank is in the set a of level i if it lies between the set's ends
 pub in_set : (i a r : ℕ) → dbl i a ≤ r → r < dbl i a + dbl i 1 → up i r ≡ a

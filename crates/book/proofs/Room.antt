@@ -1,16 +1,14 @@
 -- How many ranks are free, and that so many free ranks have a free set.
-use Rattle.std.proofs.Common.{◌≡◌, ℕ, zero, suc, ◌+◌, ◌-◌, ◌*◌, ◌/◌, ◌%◌, ◌^◌, ◌<◌, ◌≤◌, min, Bool, true, false, cond, not, ◌&&◌, ◌||◌, eqb, ltb, leb, ◌⊎◌, ◌↔◌, Decides, sym, refl, ap, ◌∙◌, subst, inl, inr, arith}
-use Rattle.std.proofs.lemmas.Bool.{cases_eq, cases_lt, cases_Bool, both_ways, lt-ltb, le-ltb, ltb-true, le-leb, lt-leb, leb-true, and_parts, and_from, or_cases, or_left, or_right, not-true, not_from_false}
+use Rattle.std.proofs.Common.{◌≡◌, ℕ, zero, suc, ◌+◌, ◌-◌, ◌*◌, ◌/◌, ◌^◌, ◌<◌, ◌≤◌, min, Bool, true, false, cond, not, ◌&&◌, ◌||◌, ltb, leb, ◌⊎◌, Decides, sym, refl, ap, ◌∙◌, inl, inr, arith}
+use Rattle.std.proofs.lemmas.Bool.{cases_eq, cases_Bool, both_ways, lt-ltb, le-leb, leb-true}
 use Rattle.std.proofs.lemmas.Bool.Decides.{nat_tests, Decides-below_or, Decides-and, Decides-like, Decides-not, Decides-ltb}
-use Rattle.book.specs.Levels.{up, dbl, Free, Whole, Differ, Grow}
+use Rattle.book.specs.Levels.{dbl, Free, Differ}
 use Rattle.book.specs.Searches.{count}
-use Rattle.book.specs.Sound.{Holds, FreeRank, Set, FreeSet, WholeSet, Sound, Ordered, Distinct}
+use Rattle.book.specs.Sound.{Holds, FreeRank, Sound}
 use Rattle.book.proofs.Views.{total}
-use Rattle.book.proofs.Levels.{up_half}
-use Rattle.book.proofs.Counts.{Is, freeb, free_true, true_free, count_none, room, no_room, dbl_pow}
+use Rattle.book.proofs.Counts.{Is, freeb, free_true, true_free, count_none, room, no_room}
 use Rattle.book.proofs.Doubles.{dbl_dbl}
-use Rattle.book.proofs.Swaps.{below}
-use Rattle.book.proofs.Places.{in_set, set_in, size_pow, set_index, index_set, dbl_pos, free_all, all_free}
+use Rattle.book.proofs.Places.{size_pow}
 
 -- the ranks from a on, l of them
 abbrev pub span : ℕ → ℕ → ℕ → Bool

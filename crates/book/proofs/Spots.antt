@@ -1,12 +1,12 @@
 -- The sessions of a book stand evenly in its slots.
-use Rattle.std.proofs.Common.{◌≡◌, ℕ, zero, suc, ◌+◌, ◌-◌, ◌*◌, ◌/◌, ◌%◌, ◌^◌, ◌<◌, ◌≤◌, max, Bool, true, false, cond, not, ◌&&◌, eqb, ltb, leb, ◌⊎◌, ◌↔◌, List, [], ◌∷◌, map, length, get_or, Some, None, sum_by, Option, sym, refl, ap, ◌∙◌, subst, inl, inr, div-lt_iff_lt-mul, div-add-mod', arith, pow_pos, pow-add}
+use Rattle.std.proofs.Common.{◌≡◌, ℕ, zero, suc, ◌+◌, ◌-◌, ◌*◌, ◌/◌, ◌%◌, ◌^◌, ◌<◌, ◌≤◌, Bool, true, false, cond, ◌&&◌, eqb, ltb, leb, ◌⊎◌, ◌↔◌, List, [], ◌∷◌, length, get_or, Some, None, sum_by, Option, sym, refl, ap, ◌∙◌, subst, inl, inr, div-lt_iff_lt-mul, div-add-mod', arith, pow_pos, pow-add}
 use native.Mathlib.Nat.{mul-div_left}
 use Rattle.std.proofs.lemmas.List.Sums.{get_or-le-sum_by}
 use Rattle.std.proofs.lemmas.List.{get_or-map, length-map, get_or_past}
 use Rattle.std.proofs.lemmas.List.FromFn.{get_or-map-range_with_len}
 use Rattle.std.proofs.lemmas.Bool.{cond-true, cond-false, cases_Bool, cases_eq, cases_lt, eqb-true, eq-eqb, ne_eqb, and_parts, and_from, leb-true, le-leb, ltb-true, lt-ltb}
 use Rattle.table.specs.declared.slot.Slot.{Slot}
-use Rattle.table.specs.Slots.{most_weight, empty_slot}
+use Rattle.table.specs.Slots.{empty_slot}
 use Rattle.table.specs.Reversal.{reversed, Spaced}
 use Rattle.table.specs.Services.{weight_at, total}
 use Rattle.table.proofs.Reversals.{offset_of_set}
@@ -17,7 +17,7 @@ use Rattle.book.specs.Slots.{holder_from, slot_for, slot_in, contents}
 use Rattle.book.specs.Sound.{Set}
 use Rattle.book.specs.Standing.{Fits, Standing}
 use Rattle.book.specs.Sessions.{sessions_of, SameSessions, spacing_of, spacings}
-use Rattle.book.specs.Even.{Has, Even}
+use Rattle.book.specs.Even.{Has}
 use Rattle.book.specs.Laws.{no_session, sum_below, Placed, PlacedLaw}
 use Rattle.book.proofs.Reversed.{sum_same, sum_reversed, sum_set}
 use Rattle.book.proofs.Sums.{opt, called, sum_sessions, once_count, sum_one, sum_part}

@@ -1,19 +1,19 @@
 -- What fill-in, release, joining and ordering do to the entries of a book, one step each.
-use Rattle.std.proofs.Common.{◌≡◌, ℕ, zero, suc, ◌+◌, ◌-◌, ◌*◌, ◌/◌, ◌%◌, ◌^◌, ◌<◌, ◌≤◌, ◌≢◌, ◌⊎◌, List, length, get_or, set, Some, None, Option, sym, refl, ap, ◌∙◌, subst, inl, inr, pow-suc, div-add-mod', arith, pow_pos}
+use Rattle.std.proofs.Common.{◌≡◌, ℕ, zero, suc, ◌+◌, ◌-◌, ◌*◌, ◌/◌, ◌^◌, ◌<◌, ◌≤◌, ◌⊎◌, length, set, Some, None, sym, refl, ap, ◌∙◌, subst, inl, inr, pow-suc, div-add-mod', arith, pow_pos}
 use lib.Pow.{high, pow-lt}
 use Rattle.std.proofs.lemmas.List.{get_or-set_same, get_or-set_other}
 use Rattle.std.proofs.lemmas.Bool.{cases_eq, cases_lt}
 use Rattle.book.specs.declared.session.Session.{Session}
 use Rattle.book.proofs.Views.{Swapped, total}
-use Rattle.book.specs.Levels.{FreeIn, up, dbl, sw, Free, Whole, Grow, Differ, Others, GrowFrom}
+use Rattle.book.specs.Levels.{FreeIn, up, dbl, sw, Free, Whole, Differ, Others, GrowFrom}
 use Rattle.book.specs.Entries.{size_at, size_of, Ranks}
-use Rattle.book.specs.Sound.{Set, FreeSet, FreeRank, Holds, Sound, Ordered}
+use Rattle.book.specs.Sound.{Set, FreeSet, Sound, Ordered}
 use Rattle.book.proofs.Levels.{up_half, up_up, both, join_frees, join, order_differ, order}
 use Rattle.book.proofs.Counts.{dbl_pow, dbl_mono}
 use Rattle.book.proofs.Doubles.{dbl_two, dbl_add, up_below}
 use Rattle.book.proofs.Filling.{around, bounded, fill, free_first, free_part, up_dbl}
-use Rattle.book.proofs.Freeing.{release, released, grow_differ, loose_whole, whole_loose, loose_last, order_skip, order_top, order_end, others_differ}
-use Rattle.book.proofs.Places.{index_below, below_index, in_set, set_in, size_pow, set_index, index_set, free_all, all_free, dbl_pos, within, table, ordered_grow, grow_ordered}
+use Rattle.book.proofs.Freeing.{release, released, grow_differ, loose_whole, whole_loose, loose_last, order_skip}
+use Rattle.book.proofs.Places.{index_below, below_index, set_in, size_pow, set_index, index_set, free_all, dbl_pos, within, table, ordered_grow, grow_ordered}
 use Rattle.book.proofs.Room.{free_or_not}
 use Rattle.book.proofs.Change.{taken, taken_to, taken_from, let_go, gone_more, gone_given, gone_only}
 use Rattle.book.proofs.Swaps.{exchanged, free_to, free_from, below_up}

@@ -1,12 +1,11 @@
 -- Sums over the sessions of a book.
-use Rattle.std.proofs.Common.{◌≡◌, ℕ, zero, suc, ◌+◌, ◌<◌, ◌≤◌, Bool, true, false, cond, not, ◌&&◌, ◌||◌, eqb, ◌⊎◌, List, [], ◌∷◌, length, get_or, set, Some, None, sum_by, Option, sym, refl, ap, ◌∙◌, subst, inl, inr, arith}
+use Rattle.std.proofs.Common.{◌≡◌, ℕ, zero, suc, ◌+◌, ◌<◌, ◌≤◌, Bool, true, false, cond, not, ◌||◌, eqb, ◌⊎◌, List, [], ◌∷◌, length, get_or, Some, None, sum_by, Option, sym, refl, ◌∙◌, subst, inl, inr, arith}
 use Rattle.std.proofs.lemmas.List.Sums.{sum_by-cons, get_or-le-sum_by}
-use Rattle.std.proofs.lemmas.Bool.{cases_Bool, cases_lt, both_ways, eqb-true, eq-eqb, cond-true, cond-false, and_parts, not-true}
+use Rattle.std.proofs.lemmas.Bool.{cases_Bool, cases_lt, both_ways, eqb-true, cond-true, cond-false, and_parts, not-true}
 use Rattle.book.specs.declared.session.Session.{Session}
-use Rattle.book.specs.Entries.{Ranks, size_of, is_number, holds}
+use Rattle.book.specs.Entries.{Ranks, size_of, holds}
 use Rattle.book.specs.Tests.{once}
 use Rattle.book.specs.Sessions.{sessions_of, without, listed, SameSessions}
-use Rattle.book.proofs.Tested.{Once}
 
 -- what an entry adds to a sum
 abbrev pub opt : (Session → ℕ) → Option Session → ℕ

@@ -1,19 +1,19 @@
 -- The tests of a book's entries say what every book keeps.
-use Rattle.std.proofs.Common.{◌≡◌, ℕ, zero, suc, ◌+◌, ◌*◌, ◌/◌, ◌%◌, ◌^◌, ◌<◌, ◌≤◌, Bool, true, false, cond, not, ◌&&◌, ◌||◌, eqb, ltb, leb, ◌⊎◌, List, [], ◌∷◌, length, get_or, replicate, is_some, Some, None, Decides, Option, sym, refl, ap, ◌∙◌, subst, inl, inr, arith, pow_pos, MatchOption}
+use Rattle.std.proofs.Common.{◌≡◌, ℕ, zero, suc, ◌+◌, ◌*◌, ◌%◌, ◌^◌, ◌<◌, ◌≤◌, Bool, true, false, not, ◌&&◌, ◌||◌, eqb, ltb, leb, ◌⊎◌, [], ◌∷◌, length, get_or, is_some, Some, None, Decides, Option, sym, refl, ap, ◌∙◌, subst, inl, inr, arith, pow_pos, MatchOption}
 use lib.Pow.{pow-lt}
 use Rattle.std.specs.List.{AllByRecursion}
 use Rattle.std.proofs.ByRecursion.{All-get_or, All-from_get_or, Decides-by_and}
 use Rattle.std.proofs.lemmas.List.{get_or_past}
-use Rattle.std.proofs.lemmas.Bool.{cases_eq, cases_lt, cases_Bool, both_ways, and_parts, and_from, eq-eqb, eqb-true, le-leb, leb-true, not-true, not_from_false, or_cases, cond_both}
-use Rattle.std.proofs.lemmas.Bool.Decides.{Decides-like, Decides-and, Decides-not, Decides-ltb, Decides-eqb, Decides-below_and}
+use Rattle.std.proofs.lemmas.Bool.{cases_lt, cases_Bool, both_ways, and_parts, and_from, eq-eqb, eqb-true, le-leb, leb-true, not-true, not_from_false, or_cases, cond_both}
+use Rattle.std.proofs.lemmas.Bool.Decides.{Decides-and, Decides-ltb, Decides-eqb, Decides-below_and}
 use Rattle.table.specs.Slots.{most_weight, lane_count}
 use Rattle.book.specs.declared.session.Session.{Session}
-use Rattle.book.specs.Searches.{all_below, first_from}
+use Rattle.book.specs.Searches.{all_below}
 use Rattle.book.specs.Entries.{Ranks, size_of, size_at, level_for, fits, is_number, holds}
 use Rattle.book.specs.Sets.{is_whole}
 use Rattle.book.specs.Slots.{holder_from, carried}
 use Rattle.book.specs.Tests.{implies, fits_in, all_fit, is_set, are_sets, holds_rank, are_apart, once, left_smaller, sizes_grow}
-use Rattle.book.specs.Sound.{Holds, Set, WholeSet, Sound, Ordered, Distinct, FreeRank}
+use Rattle.book.specs.Sound.{Holds, Set, Sound, Ordered, FreeRank}
 use Rattle.book.specs.Levels.{Whole, FreeIn, dbl}
 use Rattle.book.specs.Standing.{Fits, Standing}
 use Rattle.book.proofs.Found.{first_cases}

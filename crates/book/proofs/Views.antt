@@ -1,6 +1,6 @@
 -- Relations that the loops keep.
-use Rattle.std.proofs.Common.{◌≡◌, ℕ, zero, suc, ◌+◌, ◌<◌, length, get_or, None, Option}
-use Rattle.book.specs.Entries.{Ranks, size_at}
+use Rattle.std.proofs.Common.{◌≡◌, ℕ, zero, suc, ◌+◌, ◌<◌, length, get_or, None}
+use Rattle.book.specs.Entries.{Ranks}
 use Rattle.book.specs.Levels.{Free, FreeIn, up}
 
 -- the ranks from f on and those from g on, m of them, are exchanged

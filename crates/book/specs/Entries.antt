@@ -1,5 +1,5 @@
 -- A book as a list of entries, one for each rank: at the first rank of a session's set stands the session, and nothing stands at the others.
-use Rattle.std.specs.Prelude.{ℕ, suc, ◌+◌, ◌*◌, ◌^◌, Bool, false, ◌&&◌, ◌||◌, List, [], ◌∷◌, length, is_some, Some, None, Option, ◌==◌, nat_eq, nat_le, nat_lt, slice_index_or}
+use Rattle.std.specs.Prelude.{ℕ, suc, ◌*◌, ◌^◌, Bool, false, ◌&&◌, ◌||◌, List, [], ◌∷◌, length, is_some, Some, None, Option, ◌==◌, nat_eq, nat_le, nat_lt, slice_index_or}
 use Rattle.table.specs.Slots.{most_weight, lane_count}
 use Rattle.table.specs.Services.{granted}
 use Rattle.book.specs.declared.session.Session.{Session}

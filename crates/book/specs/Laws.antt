@@ -1,5 +1,5 @@
 -- The laws of books, in words of sessions, sets and slots.
-use Rattle.std.specs.Prelude.{◌≡◌, ℕ, zero, suc, ◌+◌, ◌*◌, ◌/◌, ◌%◌, ◌^◌, ◌<◌, ◌≤◌, Bool, true, cond, ◌↔◌, List, ◌∷◌, length, get_or, Some, None, Option, MatchOption, ◌==◌, slice_index, slice_index_or}
+use Rattle.std.specs.Prelude.{◌≡◌, ℕ, zero, suc, ◌+◌, ◌/◌, ◌%◌, ◌^◌, ◌<◌, ◌≤◌, Bool, true, cond, ◌↔◌, List, ◌∷◌, length, get_or, Some, None, Option, MatchOption, ◌==◌, slice_index, slice_index_or}
 use Rattle.table.specs.declared.slot.Slot.{Slot}
 use Rattle.table.specs.Slots.{empty_slot}
 use Rattle.table.specs.Reversal.{reversed}
@@ -8,7 +8,7 @@ use Rattle.book.specs.declared.session.Session.{Session}
 use Rattle.book.specs.Entries.{Ranks, size_at, grant_of}
 use Rattle.book.specs.Sound.{Set, FreeSet}
 use Rattle.book.specs.Standing.{Fits}
-use Rattle.book.specs.Sessions.{sessions_of, without, SameSessions, spacings, spacing_of}
+use Rattle.book.specs.Sessions.{sessions_of, without, SameSessions, spacings}
 use Rattle.book.specs.Books.{free_ranks}
 use Rattle.book.specs.Even.{Has, Even, Placeable}
 

@@ -1,5 +1,5 @@
 -- Free sets by level and index: the q-th set of level i is the set of the ranks whose i-fold half is q. The proofs go by this view.
-use Rattle.std.specs.Prelude.{◌≡◌, ℕ, zero, suc, ◌+◌, ◌*◌, ◌/◌, ◌%◌, ◌<◌, ◌≤◌, Bool, cond, ◌==◌, ◌≢◌}
+use Rattle.std.specs.Prelude.{◌≡◌, ℕ, zero, suc, ◌+◌, ◌*◌, ◌/◌, ◌%◌, ◌≤◌, cond, ◌==◌, ◌≢◌}
 use Rattle.book.specs.Entries.{Ranks, size_at}
 use Rattle.book.specs.Sound.{FreeRank}
 

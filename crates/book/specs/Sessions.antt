@@ -1,5 +1,5 @@
 -- The sessions of a book.
-use Rattle.std.specs.Prelude.{◌≡◌, ℕ, ◌/◌, ◌^◌, Bool, false, cond, ◌||◌, List, [], ◌∷◌, map, Some, None, sum_by, Option, ◌==◌}
+use Rattle.std.specs.Prelude.{◌≡◌, ℕ, ◌/◌, ◌^◌, Bool, false, cond, ◌||◌, List, [], ◌∷◌, map, Some, None, sum_by, ◌==◌}
 use Rattle.book.specs.declared.session.Session.{Session}
 use Rattle.book.specs.Entries.{Ranks}
 

@@ -1,6 +1,6 @@
 -- What every book keeps between calls, in words of sets: its sessions hold disjoint sets, its whole free sets differ in size, and those sizes grow
 -- from left to right. A book of 2 ^ n ranks is told by the size of the session whose set begins at each rank, 0 where none begins.
-use Rattle.std.specs.Prelude.{◌≡◌, ℕ, zero, suc, ◌+◌, ◌*◌, ◌/◌, ◌%◌, ◌^◌, ◌<◌, ◌≤◌}
+use Rattle.std.specs.Prelude.{◌≡◌, ℕ, ◌+◌, ◌%◌, ◌^◌, ◌<◌, ◌≤◌}
 
 -- the session at f holds the rank r
 abbrev pub Holds : (ℕ → ℕ) → ℕ → ℕ → Type 0

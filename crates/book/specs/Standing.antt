@@ -1,5 +1,5 @@
 -- What every book keeps between calls, in words.
-use Rattle.std.specs.Prelude.{◌≡◌, ℕ, ◌*◌, ◌^◌, ◌<◌, ◌≤◌, List, length, Some, None, Option, slice_index_or}
+use Rattle.std.specs.Prelude.{◌≡◌, ℕ, ◌*◌, ◌^◌, ◌<◌, ◌≤◌, length, Some, None, slice_index_or}
 use Rattle.table.specs.Slots.{most_weight, lane_count}
 use Rattle.book.specs.declared.session.Session.{Session}
 use Rattle.book.specs.Entries.{Ranks, size_at}

@@ -1,5 +1,5 @@
 -- What a book keeps between calls, as tests of its entries.
-use Rattle.std.specs.Prelude.{ℕ, suc, ◌+◌, ◌*◌, ◌%◌, ◌^◌, Bool, true, cond, not, ◌&&◌, List, [], ◌∷◌, length, is_some, Some, None, Option, ◌==◌, nat_le, nat_lt}
+use Rattle.std.specs.Prelude.{ℕ, suc, ◌+◌, ◌*◌, ◌%◌, ◌^◌, Bool, true, cond, not, ◌&&◌, [], ◌∷◌, length, is_some, Some, None, Option, ◌==◌, nat_le, nat_lt}
 use Rattle.book.specs.declared.session.Session.{Session}
 use Rattle.book.specs.Searches.{all_below}
 use Rattle.book.specs.Entries.{Ranks, size_at, level_for, fits, holds}

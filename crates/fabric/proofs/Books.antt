@@ -1,5 +1,5 @@
 -- Reading a book among the books.
-use Rattle.std.proofs.Common.{◌≡◌, ℕ, ◌+◌, ◌<◌, ◌≤◌, Bool, true, false, ◌||◌, List, [], ◌∷◌, map, length, get_or, drop, set, sym, refl, ap, ◌∙◌}
+use Rattle.std.proofs.Common.{◌≡◌, ℕ, ◌+◌, ◌<◌, ◌≤◌, true, false, List, [], map, length, get_or, drop, set, sym, ap, ◌∙◌}
 use Rattle.std.proofs.lemmas.List.{get_or-map, map-set, drop_more, drop_all}
 use Rattle.book.specs.declared.book.Book.{Book}
 use Rattle.book.specs.Books.{Ranks, holds}

@@ -1,12 +1,12 @@
 -- Slots and ports emptied one after the other.
-use Rattle.std.proofs.Common.{◌≡◌, ℕ, ◌+◌, ◌<◌, ◌≤◌, Bool, true, false, cond, List, [], ◌∷◌, ◌++◌, map, length, get_or, take, drop, set, replicate, Ok, sym, refl, ap, ◌∙◌, subst, arith}
+use Rattle.std.proofs.Common.{◌≡◌, ℕ, ◌+◌, ◌<◌, ◌≤◌, true, List, [], ◌∷◌, ◌++◌, map, length, get_or, take, drop, set, replicate, sym, ap, ◌∙◌, subst, arith}
 use Rattle.std.proofs.lemmas.List.{append_assoc, append-nil, drop_more, drop_all, take_all, set_at, set-set, set-get_or, get_or_at, get_or-set_same, length-set, length-replicate, length-take-le, length-map, length-append, length-drop, replicate_more, map_more}
 use Rattle.std.proofs.lemmas.Bool.{lt-ltb}
 use Rattle.table.specs.declared.slot.Slot.{Slot}
 use Rattle.table.specs.Slots.{slots, lane_count, empty_slot}
 use Rattle.bank.specs.declared.port.Port.{Port}
 use Rattle.bank.specs.Ports.{port_at, no_port, with_slots, write_after}
-use Rattle.fabric.specs.Starting.{emptied_port, start_answer}
+use Rattle.fabric.specs.Starting.{emptied_port}
 
 -- one slot more is empty
 slot_more : (ys : List Slot) (s : ℕ) → s < length ys → set (replicate s empty_slot ++ drop s ys) s empty_slot ≡ replicate (s + 1) empty_slot ++ drop (s + 1) ys

@@ -1,11 +1,10 @@
 -- The ports that hold a session, one after the other.
-use Rattle.std.proofs.Common.{◌≡◌, ℕ, ◌+◌, ◌*◌, ◌<◌, ◌≤◌, Bool, true, false, cond, List, [], ◌∷◌, length, get_or, drop, set, sym, refl, ap, ◌∙◌, subst, arith}
+use Rattle.std.proofs.Common.{◌≡◌, ℕ, ◌+◌, ◌<◌, ◌≤◌, Bool, true, false, cond, List, [], ◌∷◌, length, drop, sym, refl, ap, ◌∙◌, arith}
 use Rattle.std.proofs.lemmas.List.{drop_more, drop_all, drop-set-lt, length-set}
-use Rattle.std.proofs.lemmas.Bool.{cond-true, cond-false}
 use Rattle.table.specs.Slots.{bits}
 use Rattle.bank.specs.declared.port.Port.{Port}
 use Rattle.book.specs.Books.{Ranks, holds, released}
-use Rattle.fabric.specs.States.{State, book_at, with_book}
+use Rattle.fabric.specs.States.{State, book_at}
 use Rattle.fabric.specs.Changes.{Change, changing, changed_at, changed_along}
 use Rattle.fabric.specs.Releasing.{holders, released_at}
 use Rattle.fabric.proofs.Along.{changed_from}

@@ -1,5 +1,5 @@
 -- A start that is accepted.
-use Rattle.std.proofs.Common.{◌≡◌, ℕ, ◌<◌, true, List, map, length, Some, Ok, sym, refl, ap, ◌∙◌}
+use Rattle.std.proofs.Common.{◌≡◌, ℕ, ◌<◌, true, List, map, length, Some, Ok, ap, ◌∙◌}
 use Rattle.std.proofs.lemmas.List.{length-map}
 use Rattle.table.specs.declared.refusal.Reason.TheVariants.{PortShut}
 use Rattle.bank.specs.declared.port.Port.{Port}

@@ -1,5 +1,5 @@
 -- A change of books along a path, and the slots that it writes.
-use Rattle.std.specs.Prelude.{ℕ, ◌+◌, Bool, true, false, cond, List, [], ◌∷◌}
+use Rattle.std.specs.Prelude.{ℕ, ◌+◌, cond, List, [], ◌∷◌}
 use Rattle.table.specs.declared.slot.Slot.{Slot}
 use Rattle.table.specs.Slots.{bits, same_slot}
 use Rattle.bank.specs.declared.port.Port.{Port}

@@ -1,5 +1,5 @@
 -- Questions in a row: the first that is answered no declines.
-use Rattle.std.specs.Prelude.{ℕ, ◌+◌, Bool, true, false, cond, List, [], ◌∷◌, Ok, Err, Result}
+use Rattle.std.specs.Prelude.{ℕ, ◌+◌, Bool, cond, List, [], ◌∷◌, Ok, Err, Result}
 use Rattle.fabric.specs.declared.declined.Declined.{Declined}
 
 -- one question: its answer, and what it declines with

@@ -1,5 +1,5 @@
 -- Releasing a session at all its ports.
-use Rattle.std.specs.Prelude.{ℕ, ◌+◌, Bool, true, false, cond, not, ◌||◌, List, [], ◌∷◌, Ok, Err, Result}
+use Rattle.std.specs.Prelude.{ℕ, ◌+◌, Bool, cond, not, ◌||◌, List, [], ◌∷◌, Ok, Err, Result}
 use Rattle.table.specs.declared.refusal.Reason.TheVariants.{PortShut, NotLive}
 use Rattle.table.specs.Slots.{bits}
 use Rattle.bank.specs.declared.port.Port.{Port}

@@ -1,5 +1,5 @@
 -- Reserving a session along a path of ports.
-use Rattle.std.specs.Prelude.{ℕ, Bool, true, false, cond, not, ◌&&◌, ◌||◌, leb, List, [], ◌∷◌, length, take, Some, None, Ok, Err, Option, Result, ◌==◌, nat_le, nat_lt}
+use Rattle.std.specs.Prelude.{ℕ, Bool, false, not, ◌&&◌, ◌||◌, leb, List, [], ◌∷◌, length, take, Some, None, Ok, Err, Option, Result, ◌==◌, nat_le, nat_lt}
 use Rattle.table.specs.declared.refusal.Reason.{Reason}
 use Rattle.table.specs.declared.refusal.Reason.TheVariants.{NotStarted, BadNumber, BadPath, PortShut, AlreadyLive, NoRoom}
 use Rattle.table.specs.declared.service.Service.{Service}
@@ -7,7 +7,6 @@ use Rattle.table.specs.Slots.{bits}
 use Rattle.table.specs.Services.{service_for}
 use Rattle.bank.specs.declared.port.Port.{Port}
 use Rattle.bank.specs.Ports.{port_at}
-use Rattle.book.specs.declared.session.Session.{Session}
 use Rattle.book.specs.Books.{Ranks, free_ranks, holds, filled}
 use Rattle.fabric.specs.declared.declined.Declined.{Declined}
 use Rattle.fabric.specs.declared.questions.Admission.{Admission}

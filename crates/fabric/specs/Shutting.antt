@@ -1,5 +1,5 @@
 -- Shutting and reopening a port of the bank through the fabric, which stays as it is.
-use Rattle.std.specs.Prelude.{ℕ, Bool, true, false, List, length, Result, nat_lt}
+use Rattle.std.specs.Prelude.{ℕ, true, false, List, length, Result, nat_lt}
 use Rattle.table.specs.declared.refusal.Reason.TheVariants.{NoSuchPort}
 use Rattle.bank.specs.declared.port.Port.{Port}
 use Rattle.bank.specs.Ports.{state_after}

@@ -1,5 +1,5 @@
 -- Which hop a reserve is declined at for want of room.
-use Rattle.std.proofs.Common.{◌≡◌, ℕ, zero, suc, ◌+◌, ◌*◌, ◌<◌, ◌≤◌, Bool, true, false, ◌⊎◌, ◌↔◌, List, [], ◌∷◌, ◌++◌, length, get_or, take, Ok, Err, Result, sym, refl, ap, ◌∙◌, subst, inl, inr, arith}
+use Rattle.std.proofs.Common.{◌≡◌, ℕ, zero, suc, ◌+◌, ◌*◌, ◌<◌, ◌≤◌, true, false, ◌↔◌, List, [], ◌∷◌, ◌++◌, length, get_or, take, Ok, Err, Result, sym, ap, ◌∙◌, subst, inl, inr, arith}
 use Rattle.table.specs.declared.refusal.Reason.TheVariants.{BadNumber, BadLevel, BadWeight, BadPath, PortShut, AlreadyLive, NoRoom}
 use Rattle.table.specs.Slots.{slots, most_weight}
 use Rattle.table.specs.Services.{distances}
@@ -7,8 +7,8 @@ use Rattle.fabric.specs.declared.declined.Declined.{Declined}
 use Rattle.fabric.specs.Declines.{by_fabric, by_bank}
 use Rattle.fabric.specs.Reserving.{most_number, most_hops, among}
 use Rattle.manager.specs.declared.call.Answer.{Answer}
-use Rattle.manager.specs.Calls.{Ask, reserve}
-use Rattle.manager.specs.Histories.{History, spacing_for, live, is_open}
+use Rattle.manager.specs.Calls.{reserve}
+use Rattle.manager.specs.Histories.{History, spacing_for, is_open}
 use Rattle.manager.specs.Questions.{Question, question, each, IsLive, Room, questions, Accepted, Verdict}
 use Rattle.manager.specs.Guarantee.{Passes, FirstFull}
 

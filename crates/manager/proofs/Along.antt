@@ -1,15 +1,15 @@
 -- What a change of the books along a path does to books and ports.
-use Rattle.std.proofs.Common.{◌≡◌, ℕ, zero, suc, ◌+◌, ◌-◌, ◌<◌, ◌≤◌, Bool, true, false, cond, not, ◌&&◌, ◌||◌, eqb, ltb, ◌⊎◌, List, [], ◌∷◌, ◌++◌, length, get_or, take, set, sym, refl, ap, ◌∙◌, subst, inl, inr, append_assoc, append-nil, arith, length-append, length-set}
+use Rattle.std.proofs.Common.{◌≡◌, ℕ, zero, suc, ◌+◌, ◌<◌, ◌≤◌, true, false, cond, eqb, ltb, ◌⊎◌, List, [], ◌∷◌, ◌++◌, length, get_or, take, set, sym, refl, ap, ◌∙◌, subst, inl, inr, append_assoc, arith, length-append, length-set}
 use Rattle.std.specs.List.{AllByRecursion}
-use Rattle.std.proofs.lemmas.List.{get_or-set_same, get_or-set_other, set-set, set-get_or, set-append_right}
-use Rattle.std.proofs.lemmas.Bool.{cond_both, cond-true, cond-false, cases_Bool, cases_eq, eqb-true, eqb-false, eq-eqb, ne_eqb, or_cases, or_parts, and_parts, both_ways, lt-ltb, ltb-true}
+use Rattle.std.proofs.lemmas.List.{get_or-set_same, get_or-set_other, set-set, set-get_or}
+use Rattle.std.proofs.lemmas.Bool.{cond_both, cond-true, eqb-true, eqb-false, eq-eqb, ne_eqb, or_cases, or_parts, and_parts, both_ways, lt-ltb}
 use Rattle.table.specs.declared.slot.Slot.{Slot}
 use Rattle.table.specs.Slots.{bits, slots, lane_count, same_slot}
 use Rattle.bank.specs.declared.port.Port.{Port}
 use Rattle.bank.specs.Ports.{port_at, no_port, with_slots, write_after}
 use Rattle.book.specs.Books.{Ranks, contents, holds}
-use Rattle.fabric.specs.States.{State, book_at}
-use Rattle.fabric.specs.Changes.{Change, changing, programmed, changed_at, changed_along}
+use Rattle.fabric.specs.States.{book_at}
+use Rattle.fabric.specs.Changes.{Change, programmed, changed_at, changed_along}
 use Rattle.fabric.specs.Reserving.{among, is_live}
 use Rattle.fabric.specs.Releasing.{holders}
 

@@ -1,28 +1,27 @@
 -- Each call is declined by the first of its questions that is answered no.
-use Rattle.std.proofs.Common.{◌≡◌, ℕ, zero, suc, ◌+◌, ◌*◌, ◌<◌, ◌≤◌, Bool, true, false, cond, not, ◌&&◌, ◌||◌, eqb, ltb, leb, ◌⊎◌, ◌↔◌, List, [], ◌∷◌, ◌++◌, length, get_or, take, Some, Ok, Err, Result, sym, refl, ap, ◌∙◌, subst, inl, inr, arith}
+use Rattle.std.proofs.Common.{◌≡◌, ℕ, ◌+◌, ◌*◌, ◌<◌, ◌≤◌, Bool, true, false, cond, not, ◌&&◌, ◌||◌, ltb, leb, ◌⊎◌, List, [], ◌∷◌, ◌++◌, length, get_or, take, Ok, Err, Result, sym, refl, ap, ◌∙◌, subst, inl, inr, arith}
 use Rattle.std.specs.List.{range_with_len}
-use Rattle.std.proofs.lemmas.List.{get_or_past}
-use Rattle.std.proofs.lemmas.Bool.{cases_Bool, cases_lt, eq-eqb, both_ways, and_parts, and_from, ltb-true, lt-ltb, not-true, not-false, not_from_true, not_from_false}
+use Rattle.std.proofs.lemmas.Bool.{cases_lt, eq-eqb, both_ways, and_parts, and_from, ltb-true, lt-ltb, not-true, not-false, not_from_false}
 use Rattle.table.specs.declared.refusal.Reason.TheVariants.{NotStarted, BadNumber, BadLevel, BadWeight, BadPath, PortShut, AlreadyLive, NoRoom, NotLive, NoSuchPort}
 use Rattle.table.specs.declared.service.Service.{Service}
 use Rattle.table.specs.Slots.{bits, slots, most_weight}
 use Rattle.table.specs.Services.{distances, size_of, service_for, service_in}
 use Rattle.bank.specs.declared.port.Port.{Port}
 use Rattle.bank.specs.Ports.{most_ports, port_at, no_port}
-use Rattle.book.specs.Books.{Ranks, free_ranks, holds}
+use Rattle.book.specs.Books.{free_ranks, holds}
 use Rattle.fabric.specs.declared.declined.Declined.{Declined}
 use Rattle.fabric.specs.Declines.{by_fabric, by_bank}
-use Rattle.fabric.specs.Questions.{ask, ask_each, and_then}
-use Rattle.fabric.specs.States.{State, book_at}
+use Rattle.fabric.specs.Questions.{ask, and_then}
+use Rattle.fabric.specs.States.{book_at}
 use Rattle.fabric.specs.Starting.{start_answer, started_up}
-use Rattle.fabric.specs.Reserving.{most_number, most_hops, among, is_live, is_started, hop_fits, ask_started, ask_number, or_declined, ask_path, ask_hops, ask_open, ask_new, ask_room, admission, admitted, if_admitted}
-use Rattle.fabric.specs.Releasing.{free_or_open, ask_live, ask_holders, release_answer, if_released}
+use Rattle.fabric.specs.Reserving.{most_number, most_hops, among, is_live, is_started, hop_fits, ask_started, ask_number, or_declined, ask_path, ask_open, ask_new, ask_room, admission, admitted, if_admitted}
+use Rattle.fabric.specs.Releasing.{free_or_open, ask_live, release_answer, if_released}
 use Rattle.fabric.specs.Shutting.{ask_port}
 use Rattle.fabric.specs.Picking.{pick_answer, if_picked}
-use Rattle.fabric.proofs.Paths.{then_ok, asked_yes}
+use Rattle.fabric.proofs.Paths.{asked_yes}
 use Rattle.manager.specs.declared.call.Answer.{Answer}
 use Rattle.manager.specs.declared.call.Answer.TheVariants.{Started, Released, Shut, Reopened, Picked}
-use Rattle.manager.specs.Calls.{Ask, start, reserve, release, shut, reopen, pick, Performed, answering, reserved_now, performed}
+use Rattle.manager.specs.Calls.{Ask, start, reserve, release, shut, reopen, pick, answering, reserved_now, performed}
 use Rattle.manager.specs.Histories.{History, spacing_for, has, live, is_open, waits}
 use Rattle.manager.specs.Questions.{Question, question, each, IsLive, Room, questions, Accepted, Verdict}
 use Rattle.manager.specs.Worlds.{Beginning, Sound, World, world, Genuine, given, result}

@@ -1,5 +1,5 @@
 -- A call of the fabric, handed on.
-use Rattle.std.proofs.Common.{◌≡◌, ℕ, List, IsErrAnd, Ok, Err, Result, sym, refl, ap, ◌∙◌}
+use Rattle.std.proofs.Common.{◌≡◌, ℕ, List, IsErrAnd, Ok, Err, Result, ap, ◌∙◌}
 use Rattle.std.proofs.lemmas.Result.{err_from_is_err_and}
 use Rattle.bank.specs.declared.port.Port.{Port}
 use Rattle.fabric.specs.declared.declined.Declined.{Declined}
@@ -8,7 +8,7 @@ use Rattle.fabric.specs.States.{State, Outcome, outcome}
 use Rattle.fabric.specs.Picking.{Picking, picking}
 use Rattle.manager.specs.declared.call.Answer.{Answer}
 use Rattle.manager.specs.declared.call.Answer.TheVariants.{Picked as PickedNow}
-use Rattle.manager.specs.Calls.{Performed, leaving, on_bank, on_lanes}
+use Rattle.manager.specs.Calls.{leaving, on_bank, on_lanes}
 
 -- what is handed on where it was declined
 told_err : (t : Result Answer Declined) (e : Declined) → IsErrAnd t (λ y. y ≡ e) → t ≡ Err e

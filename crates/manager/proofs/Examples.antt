@@ -1,5 +1,5 @@
 -- A history of which the premises hold, and worked bookings, by computation.
-use Rattle.std.proofs.Common.{◌≡◌, ℕ, zero, suc, ◌<◌, ◌≤◌, true, false, List, [], ◌∷◌, ◌++◌, length, get_or, replicate, refl, arith}
+use Rattle.std.proofs.Common.{ℕ, zero, suc, ◌<◌, [], ◌∷◌, get_or, replicate, refl, arith}
 use Rattle.std.specs.List.{AllByRecursion}
 use Rattle.table.specs.Reversal.{reversed}
 use Rattle.table.specs.Services.{spacing}
@@ -8,7 +8,7 @@ use Rattle.book.specs.Books.{free_ranks, lowest_first, place_for, filled, releas
 use Rattle.book.specs.Sessions.{without}
 use Rattle.fabric.specs.Picking.{turn}
 use Rattle.manager.specs.Calls.{performed}
-use Rattle.manager.specs.Worlds.{Beginning, Sound, Genuine}
+use Rattle.manager.specs.Worlds.{Sound, Genuine}
 use Rattle.manager.specs.Witness.{beginning, history, Witness}
 use Rattle.manager.specs.Bookings.{Bookings}
 

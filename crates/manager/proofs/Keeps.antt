@@ -1,15 +1,15 @@
 -- A book keeps the sessions of a list: what the laws of books say of it.
-use Rattle.std.proofs.Common.{◌≡◌, ℕ, zero, suc, ◌+◌, ◌-◌, ◌*◌, ◌/◌, ◌%◌, ◌^◌, ◌<◌, ◌≤◌, max, Bool, true, false, cond, not, ◌&&◌, ◌||◌, eqb, ltb, leb, ◌⊎◌, ◌↔◌, List, [], ◌∷◌, map, length, get_or, Some, None, sum_by, Option, sym, refl, ap, ◌∙◌, subst, inl, inr, arith, pow_pos, MatchOption}
+use Rattle.std.proofs.Common.{◌≡◌, ℕ, ◌+◌, ◌-◌, ◌*◌, ◌/◌, ◌%◌, ◌^◌, ◌<◌, ◌≤◌, Bool, true, false, ◌||◌, eqb, leb, ◌⊎◌, ◌↔◌, List, [], ◌∷◌, map, length, get_or, Some, None, sum_by, Option, sym, refl, ap, ◌∙◌, inl, inr, arith, pow_pos}
 use Rattle.std.specs.List.{range_with_len, AllByRecursion}
 use Rattle.std.proofs.lemmas.Nat.{mod-mul-add}
 use Rattle.std.proofs.lemmas.List.{get_or_past}
 use Rattle.std.proofs.lemmas.List.Sums.{sum_by-cons, get_or-le-sum_by}
-use Rattle.std.proofs.lemmas.Bool.{cases_Bool, cases_lt, both_ways, cond-true, cond-false, eqb-true, eq-eqb, leb-true}
+use Rattle.std.proofs.lemmas.Bool.{cases_Bool, cases_lt, both_ways, cond-true, cond-false, eq-eqb, leb-true}
 use Rattle.table.specs.declared.slot.Slot.{Slot}
 use Rattle.table.specs.Slots.{bits, slots, most_weight, lane_count}
-use Rattle.table.specs.Services.{distances, spacing, size_of, granted, weight_at, Carries, IsSpacing, Served, service_in}
+use Rattle.table.specs.Services.{distances, size_of, Carries, IsSpacing}
 use Rattle.table.specs.Reversal.{reversed}
-use Rattle.table.proofs.Given.{served, turns}
+use Rattle.table.proofs.Given.{served}
 use Rattle.table.proofs.Weights.{carries}
 use Rattle.book.specs.declared.session.Session.{Session}
 use Rattle.book.specs.Books.{Ranks, empty_ranks, free_ranks, place_for, filled, released, holds, contents, grant_of}
@@ -17,7 +17,7 @@ use Rattle.book.specs.Slots.{slot_for, slot_in, holder_from}
 use Rattle.book.specs.Standing.{Fits, Standing}
 use Rattle.book.specs.Sessions.{sessions_of, without, SameSessions, spacing_of, spacings}
 use Rattle.book.specs.Even.{Placeable}
-use Rattle.book.specs.Laws.{InBook, Taken, Refused, FillLaw, Ended, Placed, no_session}
+use Rattle.book.specs.Laws.{InBook, FillLaw, Placed, no_session}
 use Rattle.book.proofs.Keeping.{empty_stands, filled_stands, fill_law, released_stands, release_law}
 use Rattle.book.proofs.Spots.{placed_law, fit_at, apart_pow, split_pow}
 use Rattle.book.proofs.Admits.{room_law}

@@ -1,9 +1,9 @@
 -- What holds of the worked-out state after every history.
-use Rattle.std.proofs.Common.{◌≡◌, ℕ, zero, suc, ◌+◌, ◌-◌, ◌*◌, ◌<◌, ◌≤◌, Bool, true, false, cond, not, ◌&&◌, ◌||◌, eqb, ltb, leb, ◌⊎◌, List, [], ◌∷◌, ◌++◌, map, length, get_or, take, set, replicate, Some, Ok, Err, Result, sym, refl, ap, ◌∙◌, subst, inl, inr, arith, length-set}
+use Rattle.std.proofs.Common.{◌≡◌, ℕ, ◌+◌, ◌*◌, ◌<◌, ◌≤◌, Bool, true, false, cond, not, ◌&&◌, ◌||◌, eqb, ltb, leb, ◌⊎◌, List, [], ◌∷◌, ◌++◌, map, length, get_or, take, set, replicate, Some, Ok, Err, sym, refl, ap, ◌∙◌, subst, inl, inr, arith, length-set}
 use Rattle.std.specs.List.{AllByRecursion}
 use Rattle.std.proofs.lemmas.List.{get_or-set_same, get_or-set_other, set-get_or, get_or-replicate, length-replicate, length-map, get_or-map}
 use Rattle.std.proofs.ByRecursion.{All-append}
-use Rattle.std.proofs.lemmas.Bool.{cond_both, cond-true, cond-false, cases_Bool, cases_eq, cases_lt, eq-eqb, ne_eqb, and_parts, both_ways, ltb-true, leb-true, not-true, or_parts}
+use Rattle.std.proofs.lemmas.Bool.{cond_both, cond-true, cond-false, cases_eq, cases_lt, eq-eqb, ne_eqb, and_parts, both_ways, ltb-true, not-true, or_parts}
 use Rattle.table.specs.declared.refusal.Reason.TheVariants.{BadPath, PortShut, NoRoom}
 use Rattle.table.specs.declared.service.Service.{Service}
 use Rattle.table.specs.declared.slot.Slot.{Slot}
@@ -18,23 +18,23 @@ use Rattle.book.specs.Books.{Ranks, empty_ranks, free_ranks, filled, released, h
 use Rattle.book.specs.Sessions.{without}
 use Rattle.fabric.specs.declared.declined.Declined.{Declined}
 use Rattle.fabric.specs.Declines.{by_fabric, by_bank}
-use Rattle.fabric.specs.Questions.{ask, ask_each, and_then}
-use Rattle.fabric.specs.States.{State, book_at, with_book}
-use Rattle.fabric.specs.Changes.{Change, changing, programmed, changed_at, changed_along}
-use Rattle.fabric.specs.Starting.{emptied_port, fresh_state}
-use Rattle.fabric.specs.Reserving.{among, is_live, most_hops, hop_fits, ask_started, ask_number, or_declined, ask_path, ask_hops, ask_open, ask_new, ask_room, admission, admitted}
-use Rattle.fabric.specs.Releasing.{holders, free_or_open, ask_live, ask_holders, release_answer}
+use Rattle.fabric.specs.Questions.{ask_each}
+use Rattle.fabric.specs.States.{State, book_at}
+use Rattle.fabric.specs.Changes.{Change, changing, changed_at, changed_along}
+use Rattle.fabric.specs.Starting.{emptied_port}
+use Rattle.fabric.specs.Reserving.{among, is_live, most_hops, hop_fits, ask_started, ask_number, or_declined, ask_path, ask_open, ask_new, ask_room, admission}
+use Rattle.fabric.specs.Releasing.{holders, free_or_open, ask_live}
 use Rattle.fabric.specs.Shutting.{ask_port}
 use Rattle.fabric.specs.Picking.{Turn, turn, pointer_at}
 use Rattle.fabric.proofs.Paths.{then_ok, asked_yes}
 use Rattle.fabric.proofs.Scans.{each_yes}
 use Rattle.manager.specs.declared.call.Answer.{Answer}
 use Rattle.manager.specs.declared.call.Answer.TheVariants.{Picked}
-use Rattle.manager.specs.Calls.{Ask, start, reserve, release, shut, reopen, pick, Performed, leaving, performed}
-use Rattle.manager.specs.Histories.{Event, called, joined, History, spacing_for, booked, has, changed, live, opened, is_open, sends, sends_from, picks_at, waits}
-use Rattle.manager.specs.Worlds.{Beginning, Sound, World, world, begun, Genuine, given, taken_back, result, after_call, after_join}
+use Rattle.manager.specs.Calls.{Ask, start, reserve, release, shut, reopen, pick, Performed, leaving}
+use Rattle.manager.specs.Histories.{called, joined, History, spacing_for, booked, has, changed, live, opened, is_open, sends_from, picks_at, waits}
+use Rattle.manager.specs.Worlds.{Beginning, Sound, World, world, begun, Genuine, given, taken_back, after_call, after_join}
 use Rattle.manager.proofs.Keeps.{Keeps, keeps_none, holding, keeps_more, keeps_less, Proper, proper, contents_length}
-use Rattle.manager.proofs.Along.{Distinct, among_rest, among_here, among_there, among_at, distinct_from, holders_distinct, holders_has, holders_past, live_none, programmed_all, programmed_other}
+use Rattle.manager.proofs.Along.{Distinct, among_here, among_there, among_at, distinct_from, holders_distinct, holders_has, holders_past, live_none, programmed_all}
 use Rattle.manager.proofs.Ways.{asked_true, service_fits, done, done_ok, Yes, Way, ways}
 use Rattle.manager.proofs.Steps.{set_at, rest_fits, Takes, turn_takes}
 

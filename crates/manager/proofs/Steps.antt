@@ -1,5 +1,5 @@
 -- One pick, and what it costs a lane that waits.
-use Rattle.std.proofs.Common.{◌≡◌, ℕ, zero, suc, ◌+◌, ◌-◌, ◌*◌, ◌/◌, ◌%◌, ◌<◌, ◌≤◌, min, Bool, true, false, cond, ◌&&◌, eqb, ltb, ◌⊎◌, List, [], ◌∷◌, ◌++◌, length, get_or, set, sym, refl, ap, ◌∙◌, subst, inl, inr, arith, length-set}
+use Rattle.std.proofs.Common.{◌≡◌, ℕ, zero, suc, ◌+◌, ◌-◌, ◌*◌, ◌%◌, ◌<◌, ◌≤◌, Bool, true, false, cond, eqb, ltb, ◌⊎◌, List, [], ◌∷◌, ◌++◌, length, get_or, set, sym, refl, ap, ◌∙◌, subst, inl, inr, arith, length-set}
 use native.Mathlib.Nat.{mod-add-mod}
 use Rattle.std.specs.List.{AllByRecursion}
 use Rattle.std.proofs.lemmas.List.{get_or-set_other}
@@ -9,7 +9,6 @@ use Rattle.table.specs.declared.slot.Slot.{Slot}
 use Rattle.table.specs.Slots.{empty_slot, most_weight}
 use Rattle.lanes.specs.Queues.{queue, rest, Packet, most_bytes}
 use Rattle.fabric.specs.declared.fabric.Pointer.{Pointer}
-use Rattle.fabric.specs.declared.picked.Picked.TheVariants.{Sent, Idle}
 use Rattle.fabric.specs.Picking.{cost, Turn, slot_on, some, first, ready, usable, sent, seek, stays, turn}
 use Rattle.manager.specs.declared.call.Answer.TheVariants.{Picked}
 use Rattle.manager.specs.Histories.{sends, sends_from, paid}

@@ -1,5 +1,5 @@
 -- The guarantee, from what every history keeps; and what a call that meets its definition carries on.
-use Rattle.std.proofs.Common.{◌≡◌, ℕ, ◌+◌, ◌<◌, ◌≤◌, Bool, true, false, cond, ◌⊎◌, List, [], ◌∷◌, ◌++◌, map, length, get_or, set, replicate, Ok, Err, Result, sym, refl, ap, ◌∙◌, subst, inl, inr, arith}
+use Rattle.std.proofs.Common.{◌≡◌, ℕ, ◌<◌, List, [], ◌∷◌, ◌++◌, map, length, get_or, replicate, Ok, Err, Result, sym, refl, ap, ◌∙◌, subst, inl, inr, arith}
 use Rattle.std.proofs.lemmas.List.{get_or-set_same, same_lists, length-map, get_or-map, get_or-replicate, length-replicate, get_or_default}
 use Rattle.table.specs.Slots.{bits, slots, empty_slot}
 use Rattle.bank.specs.declared.port.Port.{Port}
@@ -15,8 +15,8 @@ use Rattle.fabric.proofs.Starts.{all_open}
 use Rattle.manager.specs.declared.call.Answer.{Answer}
 use Rattle.manager.specs.declared.call.Answer.TheVariants.{Started}
 use Rattle.manager.specs.Calls.{Ask, start, reserve, release, shut, reopen, pick, Performed, leaving, on_lanes, performed}
-use Rattle.manager.specs.Histories.{Event, called, joined, History, live, is_open, waits}
-use Rattle.manager.specs.Worlds.{Beginning, Sound, World, world, begun, Genuine, given, taken_back, result}
+use Rattle.manager.specs.Histories.{called, joined, History, live, is_open, waits}
+use Rattle.manager.specs.Worlds.{Beginning, World, world, Genuine, given, taken_back, result}
 use Rattle.manager.specs.Guarantee.{Guarantee, Stands, LanesAre, Carries, Begins, Joins}
 use Rattle.manager.proofs.Keeps.{placed}
 use Rattle.manager.proofs.Ways.{Yes, Way, ways, done}

@@ -1,36 +1,34 @@
 -- The bound on waiting, over a history.
-use Rattle.std.proofs.Common.{◌≡◌, ℕ, zero, suc, ◌+◌, ◌-◌, ◌*◌, ◌/◌, ◌%◌, ◌<◌, ◌≤◌, Bool, true, false, cond, not, ◌&&◌, ◌||◌, eqb, ltb, ◌⊎◌, List, [], ◌∷◌, ◌++◌, map, length, get_or, set, Ok, Err, Result, sym, refl, ap, ◌∙◌, subst, inl, inr, mod-lt, mod-eq_of_lt, div-add-mod', arith}
+use Rattle.std.proofs.Common.{◌≡◌, ℕ, suc, ◌+◌, ◌-◌, ◌*◌, ◌/◌, ◌%◌, ◌<◌, ◌≤◌, Bool, true, false, cond, ◌||◌, eqb, ltb, ◌⊎◌, List, [], ◌∷◌, ◌++◌, length, get_or, set, Ok, Err, sym, refl, ap, ◌∙◌, subst, inl, inr, mod-lt, mod-eq_of_lt, div-add-mod', arith}
 use native.Mathlib.Nat.{mod-mod_of_dvd, dvd_of_mod-eq-zero}
 use Rattle.std.specs.List.{AllByRecursion}
 use Rattle.std.proofs.lemmas.List.{get_or-set_same, get_or-set_other, get_or-map, length-map}
 use Rattle.std.proofs.ByRecursion.{All-get_or}
 use Rattle.std.proofs.lemmas.Nat.{mod-mul-add, mod_below}
-use Rattle.std.proofs.lemmas.Bool.{cond_both, cond-true, cond-false, cases_Bool, cases_eq, cases_lt, eq-eqb, ne_eqb, both_ways, or_cases}
+use Rattle.std.proofs.lemmas.Bool.{cond_both, cond-true, cond-false, cases_Bool, cases_eq, cases_lt, eq-eqb, ne_eqb, both_ways}
 use Rattle.table.specs.declared.slot.Slot.{Slot}
 use Rattle.table.specs.Slots.{bits, slots, most_weight, empty_slot}
-use Rattle.table.specs.Services.{weight_at}
 use Rattle.table.specs.Reversal.{reversed}
 use Rattle.bank.specs.declared.port.Port.{Port}
-use Rattle.bank.specs.Ports.{most_ports, port_at, no_port, with_state}
+use Rattle.bank.specs.Ports.{port_at, no_port, with_state}
 use Rattle.lanes.specs.Queues.{queue, Packet}
 use Rattle.book.specs.declared.session.Session.{Session}
-use Rattle.book.specs.Books.{Ranks, filled, released, contents, grant_of}
+use Rattle.book.specs.Books.{Ranks, filled, released}
 use Rattle.book.specs.Standing.{Fits}
 use Rattle.book.specs.Sessions.{without, spacing_of, spacings}
-use Rattle.book.specs.Even.{Has, Even}
+use Rattle.book.specs.Even.{Has}
 use Rattle.book.specs.Laws.{Placed, no_session}
-use Rattle.fabric.specs.declared.declined.Declined.{Declined}
 use Rattle.fabric.specs.declared.fabric.Pointer.{Pointer}
 use Rattle.fabric.specs.States.{book_at}
-use Rattle.fabric.specs.Changes.{Change, changing, changed_along}
+use Rattle.fabric.specs.Changes.{changing, changed_along}
 use Rattle.fabric.specs.Reserving.{among}
 use Rattle.fabric.specs.Releasing.{holders}
 use Rattle.fabric.specs.Picking.{Turn, slot_on, some, usable, turn, pointer_at}
 use Rattle.manager.specs.declared.call.Answer.{Answer}
 use Rattle.manager.specs.declared.call.Answer.TheVariants.{Picked}
-use Rattle.manager.specs.Calls.{Ask, start, reserve, release, shut, reopen, pick, Performed, leaving, performed}
-use Rattle.manager.specs.Histories.{Event, called, joined, History, booked, has, changed, live, Unchanged, is_open, sends, sends_from, paid, picks_at, waits, PassedBy, AllSend, spent}
-use Rattle.manager.specs.Worlds.{Beginning, Sound, World, world, Genuine, given, result, after_call, after_join}
+use Rattle.manager.specs.Calls.{Ask, start, reserve, release, shut, reopen, pick, Performed}
+use Rattle.manager.specs.Histories.{called, joined, History, booked, has, changed, live, Unchanged, is_open, sends, sends_from, paid, picks_at, waits, PassedBy, AllSend, spent}
+use Rattle.manager.specs.Worlds.{Beginning, Sound, World, world, Genuine, given, after_join}
 use Rattle.manager.specs.Guarantee.{most_turn, Waiting}
 use Rattle.manager.proofs.Keeps.{Keeps, placed, fits_at, divides, weights, Proper, proper, contents_length}
 use Rattle.manager.proofs.Along.{along_off, along_pointers}

@@ -1,7 +1,6 @@
 -- The ways that a call can go: it is declined and leaves all as it was, or its questions are answered yes and it is done.
-use Rattle.std.proofs.Common.{◌≡◌, ℕ, ◌+◌, ◌*◌, ◌<◌, ◌≤◌, Bool, true, false, cond, ◌&&◌, ltb, leb, ◌⊎◌, List, [], ◌∷◌, map, length, get_or, Ok, Err, Result, sym, refl, ap, ◌∙◌, subst, inl, inr, arith}
+use Rattle.std.proofs.Common.{◌≡◌, ℕ, ◌*◌, ◌<◌, ◌≤◌, Bool, true, false, cond, ◌&&◌, ltb, leb, ◌⊎◌, List, map, length, get_or, Ok, Err, Result, sym, refl, ap, ◌∙◌, inl, inr, arith}
 use Rattle.std.proofs.lemmas.Bool.{ltb-true, leb-true, and_parts}
-use Rattle.table.specs.declared.refusal.Reason.{Reason}
 use Rattle.table.specs.declared.refusal.Reason.TheVariants.{BadLevel, BadWeight, NoSuchPort}
 use Rattle.table.specs.declared.service.Service.{Service}
 use Rattle.table.specs.Slots.{bits, slots, most_weight}
@@ -11,14 +10,13 @@ use Rattle.bank.specs.Ports.{port_at, with_state, only_if}
 use Rattle.book.specs.Books.{filled, released}
 use Rattle.fabric.specs.declared.declined.Declined.{Declined}
 use Rattle.fabric.specs.Declines.{by_bank}
-use Rattle.fabric.specs.Questions.{ask, ask_each, and_then}
-use Rattle.fabric.specs.States.{State, Outcome, outcome}
-use Rattle.fabric.specs.Changes.{Change, changing, changed_along}
+use Rattle.fabric.specs.Questions.{ask}
+use Rattle.fabric.specs.States.{State, outcome}
+use Rattle.fabric.specs.Changes.{changing, changed_along}
 use Rattle.fabric.specs.Starting.{start_answer, emptied_port, fresh_state, started_up}
 use Rattle.fabric.specs.Reserving.{ask_started, ask_number, or_declined, ask_path, ask_open, ask_new, ask_room, admission, admitted, if_admitted}
 use Rattle.fabric.specs.Releasing.{holders, release_answer, if_released}
-use Rattle.fabric.specs.Shutting.{ask_port}
-use Rattle.fabric.specs.Picking.{Turn, turn, pointer_at, with_pointer, pick_answer, if_picked}
+use Rattle.fabric.specs.Picking.{turn, pointer_at, with_pointer, pick_answer, if_picked}
 use Rattle.fabric.proofs.Paths.{then_ok}
 use Rattle.manager.specs.declared.call.Answer.{Answer}
 use Rattle.manager.specs.declared.call.Answer.TheVariants.{Started, Reserved, Released, Shut, Reopened, Picked}

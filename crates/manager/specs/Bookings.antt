@@ -1,19 +1,18 @@
 -- Worked bookings, on a bank of four open ports after a start.
-use Rattle.std.specs.Prelude.{◌≡◌, ℕ, ◌+◌, Bool, true, false, List, [], ◌∷◌, ◌++◌, map, get_or, replicate, Ok, Err, Result}
+use Rattle.std.specs.Prelude.{◌≡◌, ℕ, true, false, List, [], ◌∷◌, ◌++◌, map, replicate, Ok, Err, Result}
 use Rattle.std.specs.List.{range_with_len}
 use Rattle.table.specs.declared.refusal.Reason.TheVariants.{BadWeight, NoRoom}
 use Rattle.table.specs.declared.slot.Slot.{Slot}
 use Rattle.table.specs.Slots.{bits}
-use Rattle.bank.specs.declared.port.Port.{Port}
-use Rattle.bank.specs.Ports.{port_at, slot_at}
+use Rattle.bank.specs.Ports.{slot_at}
 use Rattle.book.specs.Sets.{is_free}
 use Rattle.fabric.specs.declared.declined.Declined.{Declined}
 use Rattle.fabric.specs.Declines.{by_fabric}
-use Rattle.fabric.specs.States.{State, book_at}
+use Rattle.fabric.specs.States.{book_at}
 use Rattle.manager.specs.declared.call.Answer.{Answer}
 use Rattle.manager.specs.declared.call.Answer.TheVariants.{Reserved, Released}
 use Rattle.manager.specs.Calls.{Ask, reserve, release}
-use Rattle.manager.specs.Worlds.{Beginning, World, begun, result, after_call}
+use Rattle.manager.specs.Worlds.{World, begun, result, after_call}
 
 -- calls one after the other, the first first
 abbrev pub after_all : World → List Ask → World

@@ -1,5 +1,5 @@
 -- The questions that a call asks, in their order, answered by what happened before it.
-use Rattle.std.specs.Prelude.{◌≡◌, ℕ, ◌+◌, ◌*◌, ◌<◌, ◌≤◌, Bool, true, false, ◌⊎◌, List, [], ◌∷◌, ◌++◌, length, take, Ok, Err, Result}
+use Rattle.std.specs.Prelude.{◌≡◌, ℕ, ◌+◌, ◌*◌, ◌<◌, ◌≤◌, true, false, ◌⊎◌, List, [], ◌∷◌, ◌++◌, length, take, Ok, Err, Result}
 use Rattle.std.specs.List.{range_with_len}
 use Rattle.table.specs.declared.refusal.Reason.TheVariants.{BadNumber, BadLevel, BadWeight, BadPath, PortShut, AlreadyLive, NoRoom, NotLive, NoSuchPort}
 use Rattle.table.specs.Slots.{bits, slots, most_weight}

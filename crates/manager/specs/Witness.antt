@@ -1,6 +1,6 @@
 -- The premises of the guarantee are met: a history with reserves, a refusal, arrivals, a pick that another lane waits through, a release that moves
 -- sessions, a shut and a reopened port, and a second start.
-use Rattle.std.specs.Prelude.{◌≡◌, ℕ, List, [], ◌∷◌, ◌++◌, replicate, Ok, Err, slice_index_or}
+use Rattle.std.specs.Prelude.{◌≡◌, [], ◌∷◌, ◌++◌, replicate, Ok, Err, slice_index_or}
 use Rattle.table.specs.declared.refusal.Reason.TheVariants.{PortShut, NoRoom, NoSuchPort}
 use Rattle.book.specs.Laws.{no_session}
 use Rattle.fabric.specs.declared.picked.Picked.TheVariants.{Sent, Idle}

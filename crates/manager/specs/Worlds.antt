@@ -7,7 +7,7 @@ use Rattle.lanes.specs.Queues.{queue, Packet, LanesFit}
 use Rattle.fabric.specs.States.{State}
 use Rattle.fabric.specs.Starting.{fresh_state}
 use Rattle.manager.specs.Calls.{Ask, start, reserve, release, shut, reopen, pick, Performed, performed}
-use Rattle.manager.specs.Histories.{Event, called, joined, History}
+use Rattle.manager.specs.Histories.{called, joined, History}
 
 -- how it began: a start was accepted on a bank of so many ports, while these packets waited in the lanes of each
 pub record Beginning : Type 0 where

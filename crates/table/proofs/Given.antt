@@ -1,11 +1,10 @@
 -- What a level and a weight are given.
-use Rattle.std.proofs.Common.{◌≡◌, ℕ, ◌+◌, ◌-◌, ◌*◌, ◌/◌, ◌^◌, ◌<◌, ◌≤◌, max, Bool, true, cond, ◌&&◌, ltb, leb, length, get_or, Ok, Err, Result, sym, refl, ap, ◌∙◌, subst, arith}
-use Rattle.std.proofs.lemmas.Nat.{pow_pos, pow-add, shl-shr, mul-le}
-use Rattle.std.proofs.lemmas.Bool.{leb-true, le-leb, lt-ltb, and_parts, and_from}
-use Rattle.table.specs.declared.service.Service.{Service}
+use Rattle.std.proofs.Common.{◌≡◌, ℕ, ◌+◌, ◌-◌, ◌*◌, ◌/◌, ◌^◌, ◌<◌, ◌≤◌, Bool, ◌&&◌, leb, length, get_or, Ok, sym, refl, ap, ◌∙◌, subst, arith}
+use Rattle.std.proofs.lemmas.Nat.{pow-add, shl-shr}
+use Rattle.std.proofs.lemmas.Bool.{leb-true, le-leb, lt-ltb, and_parts}
 use Rattle.table.specs.Slots.{bits, slots, most_weight}
-use Rattle.table.specs.Services.{distances, spacing, size_of, granted, service_in, service_for, Serves, IsSpacing, Served}
-use Rattle.table.proofs.Tables.{every, every_at}
+use Rattle.table.specs.Services.{distances, spacing, size_of, granted, service_in, service_for, IsSpacing, Served}
+use Rattle.table.proofs.Tables.{every_at}
 use Rattle.table.proofs.Spacings.{spacing_rule}
 use Rattle.table.proofs.Weights.{carries}
 

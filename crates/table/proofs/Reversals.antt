@@ -1,5 +1,5 @@
 -- The laws of reversal, over the number of bits.
-use Rattle.std.proofs.Common.{◌≡◌, ℕ, zero, suc, ◌+◌, ◌-◌, ◌*◌, ◌/◌, ◌%◌, ◌^◌, ◌<◌, ◌≤◌, ◌↔◌, sym, refl, ap, ◌∙◌, subst, add-zero, add-suc, mul_assoc, add-mul, add_comm, pow-suc, zero-add, arith}
+use Rattle.std.proofs.Common.{◌≡◌, ℕ, zero, suc, ◌+◌, ◌-◌, ◌*◌, ◌/◌, ◌%◌, ◌^◌, ◌<◌, ◌≤◌, ◌↔◌, sym, refl, ap, ◌∙◌, subst, add-zero, add-suc, mul_assoc, add-mul, add_comm, pow-suc, arith}
 use native.Mathlib.Nat.{pow-succ'}
 use Rattle.std.proofs.lemmas.Nat.{pow_pos, pow-add, mul-le, mod_below, shr_split, mod_low}
 use Rattle.table.specs.Reversal.{reversed, InSet, Spaced, OffsetOfSet, SetOfOffset}

@@ -1,7 +1,6 @@
 -- What the fields of a line are.
 use Rattle.std.specs.Prelude.{ℕ, Bool, true, false, cond, List, [], ◌∷◌, map, Some, None, Option}
 use Rattle.text.specs.declared.bytes.Class.{Class}
-use Rattle.text.specs.declared.bytes.Class.TheVariants as Class
 use Rattle.text.specs.declared.bytes.Class.TheVariants.{Digit, Letter, Blank}
 use Rattle.text.specs.declared.field.Field.{Field}
 use Rattle.text.specs.declared.field.Field.TheVariants.{Word, Number, Stray}

@@ -1,4 +1,4 @@
-use Rattle.std.proofs.Common.{sym, ap, ◌∙◌, subst, arith}
+use Rattle.std.proofs.Common.{sym, ap, ◌∙◌, arith}
 use Rattle.book.specs.Entries.{level_for}
 use Rattle.book.proofs.Blocks.{table_small}
 use Rattle.book.proofs.Placed.{level_found}

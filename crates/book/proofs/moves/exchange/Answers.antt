@@ -1,4 +1,4 @@
-use Rattle.std.proofs.Common.{◌≡◌, None, refl, subst, arith}
+use Rattle.std.proofs.Common.{◌≡◌, None, subst, arith}
 use Rattle.book.proofs.Views.{Swapped}
 use Rattle.book.proofs.Blocks.{swapped_more}
 use Rattle.book.proofs.Decided.{swapped_is}

@@ -1,6 +1,6 @@
-use Rattle.std.proofs.Common.{◌≡◌, ℕ, ◌+◌, ◌-◌, ◌/◌, ◌^◌, ◌≤◌, length, Some, None, refl, ◌∙◌, arith}
+use Rattle.std.proofs.Common.{ℕ, ◌+◌, ◌-◌, ◌/◌, ◌^◌, ◌≤◌, length, Some, None, refl, ◌∙◌, arith}
 use Rattle.book.specs.Entries.{Ranks}
-use Rattle.book.specs.Moves.{joined, other_whole, whole_around}
+use Rattle.book.specs.Moves.{joined}
 use Rattle.book.proofs.Blocks.{size_small}
 use Rattle.book.proofs.Steps.{level_in, index_in}
 use Rattle.book.proofs.Decided.{other_found, free_inside}

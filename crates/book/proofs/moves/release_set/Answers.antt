@@ -1,5 +1,5 @@
-use Rattle.std.proofs.Common.{◌≡◌, ℕ, suc, ◌+◌, ◌-◌, ◌*◌, ◌^◌, ◌≤◌, length, set, None, sym, refl, ap, ◌∙◌, subst, arith, length-set, pow_pos}
-use Rattle.book.specs.Levels.{up, Free, Whole, Others, FreeIn}
+use Rattle.std.proofs.Common.{◌≡◌, ℕ, ◌+◌, ◌-◌, ◌*◌, ◌^◌, ◌≤◌, length, set, None, sym, ap, ◌∙◌, subst, arith, length-set, pow_pos}
+use Rattle.book.specs.Levels.{Free, Whole, Others, FreeIn}
 use Rattle.book.specs.Bits.{held_bits}
 use Rattle.book.specs.Entries.{Ranks, size_at}
 use Rattle.book.specs.Sound.{Sound}

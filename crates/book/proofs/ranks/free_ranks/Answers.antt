@@ -1,4 +1,4 @@
-use Rattle.std.proofs.Common.{◌≡◌, ◌^◌, sym, ap, ◌∙◌, subst, arith}
+use Rattle.std.proofs.Common.{◌≡◌, ◌^◌, sym, ap, ◌∙◌, arith}
 use Rattle.book.specs.Searches.{count}
 use Rattle.book.specs.Bits.{free_bits}
 use Rattle.book.proofs.Counted.{count_more, count_less}

@@ -1,4 +1,4 @@
-use Rattle.std.proofs.Common.{◌≡◌, ◌+◌, ◌-◌, ◌/◌, ◌^◌, ◌<◌, sym, refl, ap, ◌∙◌, subst, arith}
+use Rattle.std.proofs.Common.{◌/◌, ◌^◌, sym, ◌∙◌, arith}
 use Rattle.book.specs.Bits.{free_bits}
 use Rattle.book.proofs.Decided.{count_inside, count_at}
 use Rattle.book.proofs.Found.{first_skip, first_hit}

@@ -1,4 +1,4 @@
-use Rattle.std.proofs.Common.{◌≡◌, ◌-◌, ◌%◌, cond, ltb, Some, sym, ap, ◌∙◌, subst, arith}
+use Rattle.std.proofs.Common.{◌-◌, ◌%◌, cond, ltb, Some, ap, arith}
 use Rattle.book.specs.Slots.{slot_for}
 use Rattle.table.specs.Slots.{bits}
 use Rattle.book.proofs.Holders.{lays_like, share_is}

@@ -1,4 +1,4 @@
-use Rattle.std.proofs.Common.{◌≡◌, ℕ, ◌+◌, ◌-◌, ◌^◌, ◌<◌, length, replicate, sym, refl, ap, ◌∙◌, subst, arith}
+use Rattle.std.proofs.Common.{◌≡◌, ℕ, ◌-◌, length, replicate, sym, refl, ◌∙◌, subst, arith}
 use lib.ListN.{get_or-replicate}
 use Rattle.table.specs.Slots.{bits, empty_slot}
 use Rattle.book.proofs.Tested.{all_carried, session_set}

@@ -1,4 +1,4 @@
-use Rattle.std.proofs.Common.{◌≡◌, ℕ, ◌++◌, take, replicate, vec_items, ap, ◌∙◌}
+use Rattle.std.proofs.Common.{◌≡◌, ◌++◌, take, replicate, vec_items, ap, ◌∙◌}
 use Rattle.fabric.specs.States.{meaning}
 use Rattle.text.specs.Sizes.{answer_bytes}
 use Rattle.daysheet.specs.Replies.{obeyed, answer_text}

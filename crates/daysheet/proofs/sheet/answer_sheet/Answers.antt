@@ -1,9 +1,7 @@
-use Rattle.std.proofs.Common.{◌≡◌, false, leb, ◌++◌, length, take, replicate, vec_items, sym, ap, ◌∙◌}
-use Rattle.std.proofs.lemmas.Bool.{lt-leb, cond-false}
+use Rattle.std.proofs.Common.{◌++◌, replicate, ◌∙◌}
 use Rattle.table.specs.declared.refusal.Reason.TheVariants.{LongInput}
 use Rattle.text.specs.Sizes.{answer_bytes}
 use Rattle.text.specs.Answers.{no_text}
-use Rattle.daysheet.specs.Sheets.{most_bytes}
 use Rattle.daysheet.proofs.Fronts.{front_within, front, too_long}
 use Rattle.daysheet.proofs.sheet.answer_sheet.Goals as goal
 

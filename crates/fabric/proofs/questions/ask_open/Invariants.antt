@@ -1,4 +1,3 @@
-use Rattle.std.proofs.Common.{ℕ, Bool}
 use Rattle.table.specs.declared.refusal.Reason.TheVariants.{PortShut}
 use Rattle.bank.specs.Ports.{port_at}
 use Rattle.fabric.specs.Declines.{by_bank}

@@ -1,5 +1,5 @@
-use Rattle.std.proofs.Common.{◌≡◌, length, sym, ap, ◌∙◌, arith}
-use Rattle.table.specs.Slots.{slots, empty_slot}
+use Rattle.std.proofs.Common.{◌≡◌, length, ◌∙◌, arith}
+use Rattle.table.specs.Slots.{slots}
 use Rattle.bank.specs.Ports.{port_at, write_after}
 use Rattle.fabric.proofs.Emptying.{empty_none, empty_more, empty_all}
 use Rattle.fabric.proofs.starting.empty_port.Goals as goal

@@ -1,4 +1,4 @@
-use Rattle.std.proofs.Common.{◌≡◌, sym, ap, ◌∙◌}
+use Rattle.std.proofs.Common.{sym, ap, ◌∙◌}
 use Rattle.fabric.specs.States.{meaning}
 use Rattle.fabric.specs.Starting.{start_call}
 use Rattle.fabric.specs.Reserving.{reserve_call}

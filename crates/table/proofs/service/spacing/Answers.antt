@@ -1,4 +1,4 @@
-use Rattle.std.proofs.Common.{◌≡◌, ℕ, ◌*◌, ◌<◌, ◌≤◌, Bool, sym, refl, subst, arith}
+use Rattle.std.proofs.Common.{◌≡◌, ℕ, ◌*◌, ◌<◌, ◌≤◌, sym, refl, subst, arith}
 use Rattle.table.specs.Slots.{bits, slots, most_weight}
 use Rattle.table.specs.Services.{serves, spacing, IsSpacing}
 use Rattle.table.proofs.Spacings.{Tried, halve, found, last, positive, bounded, spacing_rule}

@@ -1,4 +1,3 @@
-use Rattle.std.proofs.Common.{◌-◌}
 use Rattle.table.specs.Slots.{bits}
 use Rattle.table.specs.Services.{serves, spacing}
 use Rattle.table.proofs.Spacings.{Tried}

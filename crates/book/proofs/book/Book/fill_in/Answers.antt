@@ -1,4 +1,4 @@
-use Rattle.std.proofs.Common.{◌≡◌, ℕ, ◌+◌, ◌<◌, set, Some, None, sym, subst, arith, pow_pos}
+use Rattle.std.proofs.Common.{◌≡◌, ℕ, ◌+◌, ◌<◌, set, Some, sym, subst, arith, pow_pos}
 use Rattle.table.specs.Slots.{bits}
 use Rattle.book.specs.declared.session.Session.{Session}
 use Rattle.book.specs.Books.{Ranks, place_for}

@@ -1,6 +1,5 @@
-use Rattle.std.proofs.Common.{◌≡◌, is_some, sym, ap, ◌∙◌, subst, arith}
+use Rattle.std.proofs.Common.{is_some, sym, ap, ◌∙◌, subst, arith}
 use Rattle.table.specs.Slots.{bits}
-use Rattle.book.specs.Books.{released}
 use Rattle.book.specs.Laws.{Ended}
 use Rattle.book.specs.Standing.{Standing}
 use Rattle.book.proofs.Numbers.{place_holds}

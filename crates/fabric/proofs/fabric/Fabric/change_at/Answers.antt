@@ -1,9 +1,8 @@
-use Rattle.std.proofs.Common.{length, ap, ◌∙◌, arith}
+use Rattle.std.proofs.Common.{ap, ◌∙◌}
 use Rattle.table.specs.Slots.{bits}
-use Rattle.bank.specs.Ports.{most_ports}
 use Rattle.book.specs.Books.{contents}
 use Rattle.fabric.specs.BookChanges.{changed_by}
-use Rattle.fabric.specs.States.{State, meaning, book_at}
+use Rattle.fabric.specs.States.{meaning, book_at}
 use Rattle.fabric.proofs.Along.{changed_at_lem, book_after}
 use Rattle.fabric.proofs.fabric.Fabric.change_at.Goals as goal
 

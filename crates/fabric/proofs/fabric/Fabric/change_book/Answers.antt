@@ -1,4 +1,4 @@
-use Rattle.std.proofs.Common.{◌≡◌, List, get_or, sym, ap, ◌∙◌, arith}
+use Rattle.std.proofs.Common.{List, get_or, sym, ap, ◌∙◌, arith}
 use Rattle.book.specs.Books.{Ranks}
 use Rattle.fabric.specs.declared.book_change.BookChange.{BookChange}
 use Rattle.fabric.specs.BookChanges.{changed_by}

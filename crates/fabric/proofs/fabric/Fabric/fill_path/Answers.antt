@@ -1,4 +1,4 @@
-use Rattle.std.proofs.Common.{sym, ap, ◌∙◌, arith}
+use Rattle.std.proofs.Common.{sym, ◌∙◌, arith}
 use Rattle.table.specs.Slots.{bits}
 use Rattle.book.specs.Books.{filled}
 use Rattle.fabric.specs.States.{meaning}

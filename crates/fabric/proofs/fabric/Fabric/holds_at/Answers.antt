@@ -1,5 +1,5 @@
 use Rattle.std.proofs.Common.{sym, ap, ◌∙◌, arith}
-use Rattle.book.specs.Books.{Ranks, holds}
+use Rattle.book.specs.Books.{holds}
 use Rattle.fabric.proofs.Books.{book_at_lem}
 use Rattle.fabric.proofs.fabric.Fabric.holds_at.Goals as goal
 

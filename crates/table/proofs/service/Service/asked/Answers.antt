@@ -1,4 +1,4 @@
-use Rattle.std.proofs.Common.{◌≡◌, ℕ, ◌/◌, max, get_or, Ok, sym, refl, ap, ◌∙◌, subst, arith}
+use Rattle.std.proofs.Common.{◌≡◌, ◌/◌, max, get_or, Ok, sym, ap, ◌∙◌, subst, arith}
 use Rattle.table.specs.declared.service.Service.{Service}
 use Rattle.table.specs.Slots.{bits, slots}
 use Rattle.table.specs.Services.{distances, service_in, Served}
