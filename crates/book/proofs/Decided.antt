@@ -8,13 +8,14 @@ use Rattle.std.proofs.lemmas.List.Sorted.{IsPermutation-refl, IsPermutation-tran
 use Rattle.std.proofs.lemmas.List.FromFn.{length-map-range_with_len, get_or-map-range_with_len, fill_by_all}
 use Rattle.std.proofs.lemmas.Bool.{cases_eq, cases_lt, cases_Bool, both_ways, not-true, not_from_false, not_from_true, and_parts, and_from, and_left, and_right, leb-true, le-leb, cond-true, cond-false, cond_both}
 use Rattle.std.proofs.lemmas.Bool.Decides.{nat_tests, Decides-and, Decides-not, Decides-ltb, Decides-eqb}
+use Rattle.book.specs.FreeSets.{FreeSets, climb_by, whole_by}
 use Rattle.book.specs.Levels.{up, dbl, Free, Whole, FreeIn}
 use Rattle.book.specs.Sound.{FreeSet}
 use Rattle.book.proofs.Views.{Swapped, Loose}
 use Rattle.book.specs.Entries.{size_at, size_of, Ranks}
-use Rattle.book.specs.Sets.{FreeSets, meets, clear_from, clear, is_free, whole_by, is_whole, lowest_free}
+use Rattle.book.specs.Sets.{meets, clear_from, clear, is_free, is_whole, lowest_free}
 use Rattle.book.specs.Searches.{last_below}
-use Rattle.book.specs.Moves.{other_whole, climb_by, climb, loose_rank, source, exchanged}
+use Rattle.book.specs.Moves.{other_whole, climb, loose_rank, source, exchanged}
 use Rattle.book.proofs.Found.{cases_map, first_cases, last_cases, last_skip, last_hit}
 use Rattle.book.proofs.Places.{within, size_pow}
 use Rattle.book.proofs.Counts.{dbl_pow}

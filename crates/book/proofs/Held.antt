@@ -5,16 +5,17 @@ use native.Mathlib.Nat.{mod-le}
 use Rattle.std.proofs.lemmas.Nat.{mul-le}
 use Rattle.std.proofs.lemmas.Bool.{cases_eq, cases_Bool, both_ways, le-leb, lt-leb, eqb-true, eq-eqb, ne_eqb, leb-true, cond-true, cond-false, not-false, not_from_true}
 use Rattle.std.proofs.lemmas.Bool.Decides.{same_from_decides}
+use Rattle.book.specs.FreeSets.{around_by, climb_by, loose_by, lowest_by, lowest_first_by, other_by}
 use Rattle.book.specs.declared.session.Session.{Session}
 use Rattle.book.specs.Entries.{Ranks, size_of, size_at, place_of, holds}
 use Rattle.book.specs.Standing.{Standing}
-use Rattle.book.specs.Sets.{clear, is_free, lowest_by}
+use Rattle.book.specs.Sets.{clear, is_free}
 use Rattle.book.specs.Bits.{bits_of, held_bits, part, free_bits}
 use Rattle.book.specs.Levels.{up, dbl, sw, FreeIn, Free, Beside}
 use Rattle.book.specs.Sound.{FreeSet, Sound}
 use Rattle.book.specs.Searches.{count}
-use Rattle.book.specs.Moves.{brother, exchanged_sets, other_by, other_whole, loose_by, loose_rank, climb_by, climb, around_by, whole_around}
-use Rattle.book.specs.Books.{empty_ranks, lowest_first_by, lowest_first, free_ranks}
+use Rattle.book.specs.Moves.{brother, exchanged_sets, other_whole, loose_rank, climb, whole_around}
+use Rattle.book.specs.Books.{empty_ranks, lowest_first, free_ranks}
 use Rattle.book.proofs.Found.{first_cases}
 use Rattle.book.proofs.Placed.{Place}
 use Rattle.book.proofs.Keeping.{none_at, number_found}

@@ -1,11 +1,12 @@
 -- Where fill-in puts a session.
 use Rattle.std.proofs.Common.{◌≡◌, ℕ, suc, ◌+◌, ◌*◌, ◌^◌, ◌<◌, ◌≤◌, true, false, not, ◌&&◌, eqb, ◌⊎◌, set, is_some, Some, None, Option, sym, refl, ap, ◌∙◌, subst, inl, inr, arith, MatchOption}
 use Rattle.std.proofs.lemmas.Bool.{cases_Bool, eqb-true, and_parts, and_from, and_left, and_right, not-true, not_from_true, not_from_false, cond-true, cond-false}
+use Rattle.book.specs.FreeSets.{FreeSets, lowest_by, lowest_first_by}
 use Rattle.book.specs.declared.session.Session.{Session}
 use Rattle.book.specs.Searches.{when_some}
 use Rattle.book.specs.Entries.{Ranks, level_for, fits, place_of, holds}
-use Rattle.book.specs.Sets.{FreeSets, lowest_by, lowest_free}
-use Rattle.book.specs.Books.{lowest_first_by, lowest_first, place_for, filled}
+use Rattle.book.specs.Sets.{lowest_free}
+use Rattle.book.specs.Books.{lowest_first, place_for, filled}
 use Rattle.book.specs.Levels.{Free, FreeIn}
 use Rattle.book.proofs.Found.{first_cases}
 use Rattle.book.proofs.Decided.{lowest_found, lowest_in}

@@ -1,9 +1,9 @@
 -- The book of a port: what its calls answer, and what it is after them. Who uses books imports from here.
-use Rattle.std.specs.Prelude.{ℕ, ◌*◌, ◌^◌, cond, not, ◌&&◌, replicate, Some, None, Option, slice_index_or, slice_set}
+use Rattle.std.specs.Prelude.{ℕ, ◌+◌, ◌*◌, ◌^◌, Bool, cond, not, ◌&&◌, set, replicate, Some, None, Option, slice_index_or, slice_set}
 use Rattle.book.specs.declared.session.Session.{Session}
 use Rattle.book.specs.Searches.{count, when_some}
 use Rattle.book.specs.Entries.{size_of, level_for, place_of}
-use Rattle.book.specs.Sets.{FreeSets, is_free, lowest_by, lowest_free}
+use Rattle.book.specs.Sets.{is_free, lowest_free}
 use Rattle.book.specs.Moves.{released_set}
 unfoldable pub use Rattle.book.specs.Entries.{Ranks, grant_of, fits, holds}
 unfoldable pub use Rattle.book.specs.Slots.{contents, differ, changed_slots, written}
@@ -17,9 +17,6 @@ unfoldable pub free_ranks : ℕ → Ranks → ℕ
 free_ranks n xs = count (is_free n xs 0) (2 ^ n)
 
 -- the first rank of the lowest free set of so many ranks
-abbrev pub lowest_first_by : ℕ → FreeSets → ℕ → Option ℕ
-lowest_first_by n free size = when_some (level_for n size) None (λ i. when_some (lowest_by n free i) None (λ q. Some (q * 2 ^ i)))
-
 unfoldable pub lowest_first : ℕ → Ranks → ℕ → Option ℕ
 lowest_first n xs size = when_some (level_for n size) None (λ i. when_some (lowest_free n xs i) None (λ q. Some (q * 2 ^ i)))
 

@@ -1,6 +1,7 @@
 pub mod Searches
 pub mod Entries
 pub mod Sets
+pub mod FreeSets
 pub mod Bits
 pub mod Moves
 pub mod Slots

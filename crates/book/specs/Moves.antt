@@ -1,30 +1,20 @@
 -- How a release moves sessions: joining makes the whole free sets differ in size, ordering makes their sizes grow from left to right.
-use Rattle.std.specs.Prelude.{ℕ, zero, suc, ◌+◌, ◌-◌, ◌*◌, ◌/◌, ◌%◌, ◌^◌, cond, not, ◌&&◌, map, length, None, Option, ◌==◌, nat_le, nat_lt, slice_index_or, slice_set}
+use Rattle.std.specs.Prelude.{ℕ, zero, suc, ◌+◌, ◌-◌, ◌*◌, ◌/◌, ◌%◌, ◌^◌, Bool, cond, not, ◌&&◌, List, map, length, set, Some, None, Option, ◌==◌, nat_le, nat_lt, slice_index_or, slice_set}
 use Rattle.std.specs.List.{range_with_len}
 use Rattle.book.specs.Searches.{first_from, last_below, when_some}
 use Rattle.book.specs.Entries.{Ranks}
-use Rattle.book.specs.Sets.{FreeSets, whole_by, is_free, is_whole}
+use Rattle.book.specs.Sets.{is_free, is_whole}
 
 -- the whole free set around a free one, at most k levels up, as level and index
-abbrev pub climb_by : FreeSets → ℕ → ℕ → ℕ → ℕ × ℕ
-climb_by free i q zero = (i, q)
-climb_by free i q (suc k) = cond (free (suc i) (q / 2)) (climb_by free (suc i) (q / 2) k) (i, q)
-
 abbrev pub climb : ℕ → Ranks → ℕ → ℕ → ℕ → ℕ × ℕ
 climb n xs i q zero = (i, q)
 climb n xs i q (suc k) = cond (is_free n xs (suc i) (q / 2)) (climb n xs (suc i) (q / 2) k) (i, q)
 
 -- the largest set of a table is of level n
-abbrev pub around_by : ℕ → FreeSets → ℕ → ℕ → ℕ × ℕ
-around_by n free i q = climb_by free i q (n - i)
-
 abbrev pub whole_around : ℕ → Ranks → ℕ → ℕ → ℕ × ℕ
 whole_around n xs i q = climb n xs i q (n - i)
 
 -- another whole free set of level i than p
-abbrev pub other_by : ℕ → FreeSets → ℕ → ℕ → Option ℕ
-other_by n free i p = first_from (λ o. not (o == p) && whole_by free i o) 0 (2 ^ n / 2 ^ i)
-
 abbrev pub other_whole : ℕ → Ranks → ℕ → ℕ → Option ℕ
 other_whole n xs i p = first_from (λ o. not (o == p) && is_whole n xs i o) 0 (2 ^ n / 2 ^ i)
 
@@ -58,9 +48,6 @@ abbrev pub joined : ℕ → Ranks → ℕ → ℕ → Ranks
 joined n xs i p = joining n xs i p n
 
 -- the rightmost free rank that is in no free set of level i: it is in the rightmost smaller whole free set
-abbrev pub loose_by : ℕ → FreeSets → ℕ → Option ℕ
-loose_by n free i = last_below (λ r. free 0 r && not (free i (r / 2 ^ i))) (2 ^ n)
-
 abbrev pub loose_rank : ℕ → Ranks → ℕ → Option ℕ
 loose_rank n xs i = last_below (λ r. is_free n xs 0 r && not (is_free n xs i (r / 2 ^ i))) (2 ^ n)
 

@@ -1,5 +1,6 @@
 -- Sets of ranks: the set q of level i is the 2 ^ i ranks from q * 2 ^ i on, and the rank r is in the set r / 2 ^ i of level i.
-use Rattle.std.specs.Prelude.{ℕ, suc, ◌+◌, ◌*◌, ◌/◌, ◌^◌, Bool, true, not, ◌&&◌, [], ◌∷◌, Option, nat_le, nat_lt}
+use Rattle.std.specs.Prelude.{ℕ, suc, ◌+◌, ◌*◌, ◌/◌, ◌^◌, Bool, true, not, ◌&&◌, List, [], ◌∷◌, Option, nat_le, nat_lt}
+use Rattle.book.specs.declared.session.Session.{Session}
 use Rattle.book.specs.Searches.{first_from}
 use Rattle.book.specs.Entries.{Ranks, size_of}
 
@@ -20,20 +21,10 @@ clear xs first size = clear_from 0 xs first size
 abbrev pub is_free : ℕ → Ranks → ℕ → ℕ → Bool
 is_free n xs i q = nat_le (q * 2 ^ i + 2 ^ i) (2 ^ n) && clear xs (q * 2 ^ i) (2 ^ i)
 
--- Which sets of a table are free, by level and index. What follows from that is said of any such test, and then of a book.
-abbrev pub FreeSets : Type 0
-FreeSets = ℕ → ℕ → Bool
-
 -- a free set that no larger free set contains
-abbrev pub whole_by : FreeSets → ℕ → ℕ → Bool
-whole_by free i q = free i q && not (free (suc i) (q / 2))
-
 abbrev pub is_whole : ℕ → Ranks → ℕ → ℕ → Bool
 is_whole n xs i q = is_free n xs i q && not (is_free n xs (suc i) (q / 2))
 
 -- the lowest free set of level i
-abbrev pub lowest_by : ℕ → FreeSets → ℕ → Option ℕ
-lowest_by n free i = first_from (free i) 0 (2 ^ n / 2 ^ i)
-
 abbrev pub lowest_free : ℕ → Ranks → ℕ → Option ℕ
 lowest_free n xs i = first_from (is_free n xs i) 0 (2 ^ n / 2 ^ i)

@@ -1,9 +1,10 @@
 // The calls of a book.
 ghost use Rattle.std.specs.Prelude.{◌≡◌, ℕ, ◌^◌, ◌<◌, ◌≤◌, length, nat_le};
 ghost use Rattle.table.specs.Slots.{bits};
+ghost use Rattle.book.specs.FreeSets.{lowest_first_by};
 ghost use Rattle.book.specs.Entries.{level_for, fits, is_number, place_of};
 ghost use Rattle.book.specs.Bits.{held_bits, free_bits};
-ghost use Rattle.book.specs.Books.{empty_ranks, free_ranks, lowest_first_by, place_for, filled, released_at, released, holds, contents};
+ghost use Rattle.book.specs.Books.{empty_ranks, free_ranks, place_for, filled, released_at, released, holds, contents};
 ghost use Rattle.book.specs.Standing.{Standing};
 ghost use Rattle.book.specs.Laws.{FillLaw, Ended, RoomLaw, PlacedLaw};
 

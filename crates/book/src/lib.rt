@@ -6,4 +6,4 @@ pub mod books;
 mod moves;
 mod ranks;
 pub mod session;
-mod slots;
+pub mod slots;

@@ -100,7 +100,8 @@ fn order_level(book: &mut [Option<Session>], held: u64, levels: u32, level: u32)
     if let Some(p) = other_whole(held, levels, level, len) {
         if let Some(rank) = loose_rank(held, levels, level) {
             let q = index_of(rank, level);
-            if p < q {
+            let is_left = p < q;
+            if is_left {
                 return exchange_sets(book, held, levels, level, p, q);
             }
         }

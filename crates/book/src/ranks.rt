@@ -1,10 +1,9 @@
 // Free sets among the ranks of a table. The ranks that sessions hold are the bits of one number; the set of a level and an index is the 2^level ranks
 // from index * 2^level on.
 ghost use Rattle.std.specs.Prelude.{◌≡◌, ℕ, ◌+◌, ◌-◌, ◌*◌, ◌/◌, ◌^◌, ◌<◌, ◌≤◌, length};
+ghost use Rattle.book.specs.FreeSets.{around_by, loose_by, lowest_by, other_by, whole_by};
 ghost use Rattle.book.specs.Searches.{count};
 ghost use Rattle.book.specs.Entries.{size_at};
-ghost use Rattle.book.specs.Sets.{whole_by, lowest_by};
-ghost use Rattle.book.specs.Moves.{around_by, other_by, loose_by};
 ghost use Rattle.book.specs.Bits.{part, free_bits};
 
 use crate::session::Session;

@@ -1,5 +1,5 @@
 -- Reserving a session along a path of ports.
-use Rattle.std.specs.Prelude.{ℕ, Bool, false, not, ◌&&◌, ◌||◌, leb, List, [], ◌∷◌, length, take, Some, None, Ok, Err, Option, Result, ◌==◌, nat_le, nat_lt}
+use Rattle.std.specs.Prelude.{ℕ, Bool, false, not, ◌&&◌, ◌||◌, List, [], ◌∷◌, length, take, Some, None, Ok, Err, Option, Result, ◌==◌, nat_le, nat_lt}
 use Rattle.table.specs.declared.refusal.Reason.{Reason}
 use Rattle.table.specs.declared.refusal.Reason.TheVariants.{NotStarted, BadNumber, BadPath, PortShut, AlreadyLive, NoRoom}
 use Rattle.table.specs.declared.service.Service.{Service}
@@ -79,7 +79,7 @@ ask_new number books = ask (not (is_live number books)) (by_fabric AlreadyLive 0
 
 -- has every port on the path so many free ranks?
 abbrev pub ask_room : ℕ → List Ranks → List ℕ → Result (Unit {0}) Declined
-ask_room size books path = ask_each (λ k p. leb size (free_ranks bits (book_at books p))) (by_fabric NoRoom) 0 path
+ask_room size books path = ask_each (λ k p. nat_le size (free_ranks bits (book_at books p))) (by_fabric NoRoom) 0 path
 
 -- what enters the books for a session that is given this service
 abbrev pub admission : ℕ → ℕ → ℕ → Service → Admission

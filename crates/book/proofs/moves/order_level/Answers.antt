@@ -22,8 +22,8 @@ exchange_sets-requires c =
       apart = λ e. omega arith;
     }
 
-pub returns-then-p-q : goal.returns-then-p-q
-returns-then-p-q c =
+pub returns-then-is_left : goal.returns-then-is_left
+returns-then-is_left c =
     let n = c.args.levels in
     let s = c.args.level in
     let xs = c.args.book.now in
@@ -36,8 +36,8 @@ returns-then-p-q c =
       bits = c.exchange_sets.ensures.bits;
     }
 
-pub returns-else-p-q : goal.returns-else-p-q
-returns-else-p-q c =
+pub returns-else-is_left : goal.returns-else-is_left
+returns-else-is_left c =
     let n = c.args.levels in
     let s = c.args.level in
     let xs = c.args.book.now in

@@ -1,6 +1,6 @@
 use Rattle.std.proofs.Common.{◌≡◌, ◌/◌, ◌^◌, not, ◌&&◌}
+use Rattle.book.specs.FreeSets.{loose_by}
 use Rattle.book.specs.Bits.{free_bits}
-use Rattle.book.specs.Moves.{loose_by}
 use Rattle.book.specs.Searches.{last_below}
 use Rattle.book.proofs.ranks.loose_rank.Given as goal
 

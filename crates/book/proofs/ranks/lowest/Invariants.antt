@@ -1,5 +1,5 @@
 use Rattle.std.proofs.Common.{◌≡◌, ◌-◌, ◌/◌, ◌^◌}
-use Rattle.book.specs.Sets.{lowest_by}
+use Rattle.book.specs.FreeSets.{lowest_by}
 use Rattle.book.specs.Bits.{free_bits}
 use Rattle.book.specs.Searches.{first_from}
 use Rattle.book.proofs.ranks.lowest.Given as goal

@@ -1,6 +1,6 @@
 use Rattle.std.proofs.Common.{ℕ, ◌/◌, ◌^◌, Bool, not, ◌&&◌, eqb, sym, ◌∙◌, arith}
 use Rattle.std.proofs.lemmas.Bool.{ne_eqb, eq-eqb, and_from, and_left, and_right, not_from_false, not_from_true}
-use Rattle.book.specs.Sets.{whole_by}
+use Rattle.book.specs.FreeSets.{whole_by}
 use Rattle.book.specs.Bits.{free_bits}
 use Rattle.book.proofs.Decided.{count_inside, count_at}
 use Rattle.book.proofs.Found.{first_skip, first_hit}

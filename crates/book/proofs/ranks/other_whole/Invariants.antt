@@ -1,7 +1,6 @@
 use Rattle.std.proofs.Common.{◌≡◌, ◌-◌, ◌/◌, ◌^◌, not, ◌&&◌, eqb}
-use Rattle.book.specs.Sets.{whole_by}
+use Rattle.book.specs.FreeSets.{other_by, whole_by}
 use Rattle.book.specs.Bits.{free_bits}
-use Rattle.book.specs.Moves.{other_by}
 use Rattle.book.specs.Searches.{first_from}
 use Rattle.book.proofs.ranks.other_whole.Given as goal
 

@@ -1,6 +1,6 @@
 use Rattle.std.proofs.Common.{◌≡◌, ◌+◌, ◌-◌, ◌*◌, ◌^◌, ◌≤◌}
+use Rattle.book.specs.FreeSets.{around_by}
 use Rattle.book.specs.Bits.{free_bits}
-use Rattle.book.specs.Moves.{around_by}
 use Rattle.book.proofs.ranks.whole_around.Given as goal
 
 abbrev pub invariant-loop-l : goal.invariant-loop-l
