@@ -1,5 +1,7 @@
 // The bytes of an answer.
-ghost use Rattle.std.specs.Prelude.{◌≡◌, ◌+◌, ◌<◌, ◌≤◌, length};
+ghost use Rattle.std.specs.Prelude.{◌≡◌, ◌+◌, ◌<◌, ◌≤◌, [], ◌∷◌, length};
+ghost use Rattle.text.specs.Answers.{Wrote};
+ghost use Rattle.runner.specs.Bytes.{word, layer_byte, picked_bytes, fields_bytes, came_bytes};
 
 use crate::world::Came;
 use fabric::declined::Declined;
@@ -12,7 +14,7 @@ pub(crate) const LONGEST: usize = 17;
 
 fn put_byte(out: &mut [u8], at: usize, byte: u8) -> usize
     requires { at < length out.old }
-    ensures { result ≡ at + 1 }
+    ensures { Wrote out.old out.new at result (byte ∷ []) }
 {
     out[at] = byte;
     at + 1
@@ -21,17 +23,18 @@ fn put_byte(out: &mut [u8], at: usize, byte: u8) -> usize
 // A number of four bytes, the high one first. Greater ones do not occur.
 fn put_word(out: &mut [u8], at: usize, n: usize) -> usize
     requires { at + 4 ≤ length out.old }
-    ensures { result ≡ at + 4 }
+    ensures { Wrote out.old out.new at result (word n) }
 {
     let bytes = ((n % 4294967296) as u32).to_be_bytes();
-    out[at] = bytes[0];
-    out[at + 1] = bytes[1];
-    out[at + 2] = bytes[2];
-    out[at + 3] = bytes[3];
-    at + 4
+    let end = at + 4;
+    let part = &mut out[at..end];
+    part.copy_from_slice(&bytes);
+    end
 }
 
-fn layer_byte(layer: Layer) -> u8 {
+fn layer_byte(layer: Layer) -> u8
+    ensures { result ≡ layer_byte layer }
+{
     match layer {
         Layer::Bank => 0,
         Layer::Lanes => 1,
@@ -42,7 +45,7 @@ fn layer_byte(layer: Layer) -> u8 {
 
 fn put_picked(out: &mut [u8], at: usize, picked: Picked) -> usize
     requires { at + 16 ≤ length out.old }
-    ensures { result ≤ at + 16 }
+    ensures { Wrote out.old out.new at result (picked_bytes picked) }
 {
     match picked {
         Picked::Sent {
@@ -62,37 +65,56 @@ fn put_picked(out: &mut [u8], at: usize, picked: Picked) -> usize
     }
 }
 
-fn put_answer(out: &mut [u8], at: usize, answer: Answer) -> usize
-    requires { at + 17 ≤ length out.old }
-    ensures { result ≤ at + 17 }
+// The fields of an accepted call.
+fn put_fields(out: &mut [u8], at: usize, answer: Answer) -> usize
+    requires { at + 16 ≤ length out.old }
+    ensures { Wrote out.old out.new at result (fields_bytes answer) }
 {
-    let a = put_byte(out, at, 0);
     match answer {
         Answer::Reserved(spacing, grant, slots) => {
-            let b = put_word(out, a, spacing);
-            let c = put_word(out, b, grant as usize);
-            put_word(out, c, slots)
+            let a = put_word(out, at, spacing);
+            let b = put_word(out, a, grant as usize);
+            put_word(out, b, slots)
         }
-        Answer::Released(slots) => put_word(out, a, slots),
-        Answer::Picked(picked) => put_picked(out, a, picked),
-        _ => a,
+        Answer::Released(slots) => put_word(out, at, slots),
+        Answer::Picked(picked) => put_picked(out, at, picked),
+        _ => at,
+    }
+}
+
+// A refusal: its number, the place that its question names, the layer that found it and the place that this layer named.
+fn put_declined(out: &mut [u8], at: usize, declined: Declined) -> usize
+    requires { at + 11 ≤ length out.old }
+    ensures { Wrote out.old out.new at result (came_bytes (Err declined)) }
+{
+    let a = put_byte(out, at, 1);
+    let b = put_byte(out, a, declined.refusal.reason.number());
+    let c = put_word(out, b, declined.place);
+    let d = put_byte(out, c, layer_byte(declined.refusal.layer));
+    put_word(out, d, declined.refusal.place)
+}
+
+// The answer of an accepted command.
+fn put_accepted(out: &mut [u8], at: usize, came: Came) -> usize
+    requires { at + 17 ≤ length out.old }
+    ensures { Wrote out.old out.new at result (came_bytes (Ok came)) }
+{
+    match came {
+        Came::Joined => put_byte(out, at, 0),
+        Came::Answered(answer) => {
+            let a = put_byte(out, at, 0);
+            put_fields(out, a, answer)
+        }
     }
 }
 
 // Writes an answer from `at` on, and answers where it ends.
 pub(crate) fn put_came(out: &mut [u8], at: usize, came: Result<Came, Declined>) -> usize
     requires { at + 17 ≤ length out.old }
-    ensures { result ≤ at + 17 }
+    ensures { Wrote out.old out.new at result (came_bytes came) }
 {
     match came {
-        Ok(Came::Joined) => put_byte(out, at, 0),
-        Ok(Came::Answered(answer)) => put_answer(out, at, answer),
-        Err(declined) => {
-            let a = put_byte(out, at, 1);
-            let b = put_byte(out, a, declined.refusal.reason.number());
-            let c = put_word(out, b, declined.place);
-            let d = put_byte(out, c, layer_byte(declined.refusal.layer));
-            put_word(out, d, declined.refusal.place)
-        }
+        Ok(came) => put_accepted(out, at, came),
+        Err(declined) => put_declined(out, at, declined),
     }
 }

@@ -3,5 +3,7 @@
 
 mod answers;
 pub mod exported;
+#[cfg(test)]
+mod runs;
 mod script;
 mod world;

@@ -1,8 +1,11 @@
 // Call scripts: commands as bytes, each a byte that says which and its arguments, of fixed width and big-endian.
+ghost use Rattle.std.specs.Prelude.{◌≡◌, ◌+◌, ◌<◌, length, slice_index};
+ghost use Rattle.manager.specs.Calls.{release};
+ghost use Rattle.runner.specs.Commands.{call, arrive, told, order_of, half_at, word_at, with_bytes, reserve_from, command_from, step_of};
 
-// A command of a script. A path's ports are bytes of the script.
+// A call of the manager, as a script has it. A path's ports are bytes of the script.
 #[derive(Clone, Copy)]
-pub(crate) enum Command<'a> {
+pub(crate) enum Request<'a> {
     Start,
     Reserve {
         number: u32,
@@ -14,11 +17,13 @@ pub(crate) enum Command<'a> {
     Shut(usize),
     Reopen(usize),
     Pick(usize),
-    Arrive {
-        port: usize,
-        lane: u8,
-        length: u16,
-    },
+}
+
+// A command of a script: a call, or a packet that arrives at a lane of a port.
+#[derive(Clone, Copy)]
+pub(crate) enum Command<'a> {
+    Call(Request<'a>),
+    Arrive { port: usize, lane: u8, length: u16 },
 }
 
 // The first command of a script, and the script behind it.
@@ -28,68 +33,122 @@ pub(crate) struct Step<'a> {
     pub(crate) rest: &'a [u8],
 }
 
-fn word(a: u8, b: u8, c: u8, d: u8) -> u32 {
-    u32::from_be_bytes([a, b, c, d])
+// The number of two bytes from a place on.
+fn half_at(bytes: &[u8], at: usize) -> u16
+    requires { at + 1 < length bytes.now }
+    ensures { result ≡ half_at bytes.now at }
+{
+    u16::from_be_bytes([bytes[at], bytes[at + 1]])
 }
 
-// A reserve, from its first argument on.
-fn reserve<'a>(arguments: &'a [u8]) -> Option<Step<'a>> {
-    let [
-        n0,
-        n1,
-        n2,
-        n3,
-        l0,
-        l1,
-        l2,
-        l3,
-        w0,
-        w1,
-        w2,
-        w3,
-        count,
-        tail @ ..,
-    ] = arguments
-    else {
-        return None;
-    };
-    let count = *count as usize;
-    if tail.len() < count {
+// The number of four bytes from a place on.
+fn word_at(bytes: &[u8], at: usize) -> u32
+    requires { at + 3 < length bytes.now }
+    ensures { result ≡ word_at bytes.now at }
+{
+    u32::from_be_bytes([bytes[at], bytes[at + 1], bytes[at + 2], bytes[at + 3]])
+}
+
+// A reserve, by its arguments.
+fn read_reserve<'a>(args: &'a [u8]) -> Option<Step<'a>>
+    ensures { told result ≡ reserve_from args.now }
+{
+    if args.len() < 13 {
         return None;
     }
-    let command = Command::Reserve {
-        number: word(*n0, *n1, *n2, *n3),
-        level: word(*l0, *l1, *l2, *l3),
-        weight: word(*w0, *w1, *w2, *w3),
-        hops: &tail[0..count],
+    let end = 13 + args[12] as usize;
+    if args.len() < end {
+        return None;
+    }
+    let request = Request::Reserve {
+        number: word_at(args, 0),
+        level: word_at(args, 4),
+        weight: word_at(args, 8),
+        hops: &args[13..end],
     };
     Some(Step {
-        command,
-        rest: &tail[count..],
+        command: Command::Call(request),
+        rest: &args[end..],
     })
 }
 
-// The first command; none where the script ends, is cut off or goes on with another byte than a command's.
-pub(crate) fn first_step<'a>(script: &'a [u8]) -> Option<Step<'a>> {
-    let [kind, arguments @ ..] = script else {
+// A release, by its argument.
+fn read_release<'a>(args: &'a [u8]) -> Option<Step<'a>>
+    ensures { told result ≡ with_bytes 4 args.now (call (release (word_at args.now 0))) }
+{
+    if args.len() < 4 {
         return None;
+    }
+    Some(Step {
+        command: Command::Call(Request::Release(word_at(args, 0))),
+        rest: &args[4..],
+    })
+}
+
+// An arrival, by its arguments.
+fn read_arrival<'a>(args: &'a [u8]) -> Option<Step<'a>>
+    ensures { told result ≡ with_bytes 4 args.now (arrive (slice_index args.now 0) (slice_index args.now 1) (half_at args.now 2)) }
+{
+    if args.len() < 4 {
+        return None;
+    }
+    let command = Command::Arrive {
+        port: args[0] as usize,
+        lane: args[1],
+        length: half_at(args, 2),
     };
-    let (command, rest) = match (*kind, arguments) {
-        (0, rest) => (Command::Start, rest),
-        (1, _) => return reserve(arguments),
-        (2, [a, b, c, d, rest @ ..]) => (Command::Release(word(*a, *b, *c, *d)), rest),
-        (3, [port, rest @ ..]) => (Command::Shut(*port as usize), rest),
-        (4, [port, rest @ ..]) => (Command::Reopen(*port as usize), rest),
-        (5, [port, rest @ ..]) => (Command::Pick(*port as usize), rest),
-        (6, [port, lane, high, low, rest @ ..]) => (
-            Command::Arrive {
-                port: *port as usize,
-                lane: *lane,
-                length: u16::from_be_bytes([*high, *low]),
-            },
-            rest,
-        ),
-        _ => return None,
-    };
-    Some(Step { command, rest })
+    Some(Step {
+        command,
+        rest: &args[4..],
+    })
+}
+
+// The first byte, or 0 where there is none.
+fn first_byte(bytes: &[u8]) -> usize
+    ensures { result ≡ slice_index bytes.now 0 }
+{
+    match bytes.first() {
+        Some(byte) => *byte as usize,
+        None => 0,
+    }
+}
+
+// A command whose arguments are so many bytes, if they are there.
+fn taking<'a>(args: &'a [u8], bytes: usize, command: Command<'a>) -> Option<Step<'a>>
+    ensures { told result ≡ with_bytes bytes args.now (order_of command.entry) }
+{
+    if args.len() < bytes {
+        return None;
+    }
+    Some(Step {
+        command,
+        rest: &args[bytes..],
+    })
+}
+
+// A command of a kind, by its arguments.
+fn read_command<'a>(kind: u8, args: &'a [u8]) -> Option<Step<'a>>
+    ensures { told result ≡ command_from kind args.now }
+{
+    let port = first_byte(args);
+    match kind {
+        0 => taking(args, 0, Command::Call(Request::Start)),
+        1 => read_reserve(args),
+        2 => read_release(args),
+        3 => taking(args, 1, Command::Call(Request::Shut(port))),
+        4 => taking(args, 1, Command::Call(Request::Reopen(port))),
+        5 => taking(args, 1, Command::Call(Request::Pick(port))),
+        6 => read_arrival(args),
+        _ => None,
+    }
+}
+
+// The first command; none where the script ends, is cut off or goes on with another byte than a command's.
+pub(crate) fn first_step<'a>(script: &'a [u8]) -> Option<Step<'a>>
+    ensures { told result ≡ step_of script.now }
+{
+    match script {
+        [kind, args @ ..] => read_command(*kind, args),
+        [] => None,
+    }
 }

@@ -1,0 +1,4 @@
+pub mod Steps
+pub mod Hops
+pub mod Obeying
+pub mod Running

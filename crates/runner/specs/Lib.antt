@@ -1,0 +1,4 @@
+pub mod Bytes
+pub mod Commands
+pub mod Worlds
+pub mod Scripts
