@@ -63,16 +63,6 @@ pub record Tried (test : ℕ → Bool) (b s t : ℕ) : Type 0 where
   pub power : (k : ℕ) × (k ≤ b) × (t ≡ 2 ^ k) × (largest_power test k ≡ s)
 
 module _ (test : ℕ → Bool) (b s t : ℕ) (h : Tried test b s t) where
-  halve_at : (k : ℕ) → k ≤ b → t ≡ 2 ^ k → largest_power test k ≡ s → 1 < t → test t ≡ false → Tried test b s (t / 2)
-  halve_at zero le e rest more fails = absurd (omega arith)
-  halve_at (suc k) le e rest more fails =
-      let p : 2 ^ suc k ≡ 2 * 2 ^ k = pow-succ' 2 k in
-      let f : test (2 ^ suc k) ≡ false = ap test (sym e) ∙ fails in
-      record { power = (k, omega arith, omega arith, sym (cond-false (test (2 ^ suc k)) (2 ^ suc k) (largest_power test k) f) ∙ rest) }
-
-  pub halve : 1 < t → test t ≡ false → Tried test b s (t / 2)
-  halve = halve_at h.power.0 h.power.1 h.power.2 h.power.3
-
   found_at : (k : ℕ) → t ≡ 2 ^ k → largest_power test k ≡ s → 1 < t → test t ≡ true → t ≡ s
   found_at zero e rest more passes = absurd (omega arith)
   found_at (suc k) e rest more passes = e ∙ sym (cond-true (test (2 ^ suc k)) (2 ^ suc k) (largest_power test k) (ap test (sym e) ∙ passes)) ∙ rest

@@ -1,6 +1,7 @@
 -- The number of every question that can be answered no.
-use Rattle.std.specs.Prelude.{ℕ}
+use Rattle.std.specs.Prelude.{ℕ, List, codes}
 use Rattle.table.specs.declared.refusal.Layer.{Layer}
+use Rattle.table.specs.declared.refusal.Layer.TheVariants.{Bank, Lanes, Fabric, Sheet}
 use Rattle.table.specs.declared.refusal.Reason.{Reason}
 use Rattle.table.specs.declared.refusal.Reason.TheVariants.{NotStarted, BadNumber, BadLevel, BadWeight, BadPath, PortShut, AlreadyLive, NoRoom, NotLive, NoSuchPort, NoSuchSlot, NoSuchLane, NoPacket, LaneFull, BadLength, ShortBuffer, LongInput, UnknownWord, NotANumber, WrongCount}
 use Rattle.table.specs.declared.refusal.Refusal.{Refusal}
@@ -46,6 +47,13 @@ number_of UnknownWord = 18
 number_of NotANumber = 19
 -- are there as many fields as the form wants?
 number_of WrongCount = 20
+
+-- the name that is printed for a layer
+abbrev pub layer_name : Layer → List ℕ
+layer_name Bank = codes "bank"
+layer_name Lanes = codes "lanes"
+layer_name Fabric = codes "fabric"
+layer_name Sheet = codes "sheet"
 
 -- a refusal by a layer at a place
 abbrev pub refusal : Layer → Reason → ℕ → Refusal

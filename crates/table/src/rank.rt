@@ -17,6 +17,7 @@ pub fn reverse(slot: usize) -> usize
 {
     let mut left = slot;
     let mut out: usize = 0;
+    // A turn for each bit: the library's `reverse_bits` is of all 64, and would be shifted back.
     for i in 0..BITS {
         out = out * 2 + left % 2;
         left /= 2;

@@ -1,8 +1,10 @@
-ghost use Rattle.std.specs.Prelude.{◌≡◌};
-ghost use Rattle.table.specs.Refusals.{number_of};
+ghost use Rattle.std.specs.Prelude.{◌≡◌, Some};
+ghost use Rattle.table.specs.Refusals.{layer_name, number_of, refusal};
+
+use std::fmt;
 
 // The layer that found a refusal.
-#[derive(Clone, Copy)]
+#[derive(Clone, Copy, PartialEq, Eq, Debug)]
 pub enum Layer {
     Bank,
     Lanes,
@@ -10,65 +12,69 @@ pub enum Layer {
     Sheet,
 }
 
-// The question that was answered no, in the order of their numbers.
-#[derive(Clone, Copy)]
+impl fmt::Display for Layer {
+    ghost output = { λ layer. Some (layer_name layer) };
+
+    fn fmt<W: fmt::Write>(&self, f: &mut fmt::Formatter<W>) -> fmt::Result {
+        f.write_str(match self {
+            Layer::Bank => "bank",
+            Layer::Lanes => "lanes",
+            Layer::Fabric => "fabric",
+            Layer::Sheet => "sheet",
+        })
+    }
+}
+
+// The question that was answered no, with the number that is printed for it.
+#[derive(Clone, Copy, PartialEq, Eq, Debug)]
 pub enum Reason {
-    NotStarted,
-    BadNumber,
-    BadLevel,
-    BadWeight,
-    BadPath,
-    PortShut,
-    AlreadyLive,
-    NoRoom,
-    NotLive,
-    NoSuchPort,
-    NoSuchSlot,
-    NoSuchLane,
-    NoPacket,
-    LaneFull,
-    BadLength,
-    ShortBuffer,
-    LongInput,
-    UnknownWord,
-    NotANumber,
-    WrongCount,
+    NotStarted = 1,
+    BadNumber = 2,
+    BadLevel = 3,
+    BadWeight = 4,
+    BadPath = 5,
+    PortShut = 6,
+    AlreadyLive = 7,
+    NoRoom = 8,
+    NotLive = 9,
+    NoSuchPort = 10,
+    NoSuchSlot = 11,
+    NoSuchLane = 12,
+    NoPacket = 13,
+    LaneFull = 14,
+    BadLength = 15,
+    ShortBuffer = 16,
+    LongInput = 17,
+    UnknownWord = 18,
+    NotANumber = 19,
+    WrongCount = 20,
 }
 
 impl Reason {
-    // The number that is printed for it.
     pub fn number(self) -> u8
         ensures { result ≡ number_of self }
     {
-        match self {
-            Reason::NotStarted => 1,
-            Reason::BadNumber => 2,
-            Reason::BadLevel => 3,
-            Reason::BadWeight => 4,
-            Reason::BadPath => 5,
-            Reason::PortShut => 6,
-            Reason::AlreadyLive => 7,
-            Reason::NoRoom => 8,
-            Reason::NotLive => 9,
-            Reason::NoSuchPort => 10,
-            Reason::NoSuchSlot => 11,
-            Reason::NoSuchLane => 12,
-            Reason::NoPacket => 13,
-            Reason::LaneFull => 14,
-            Reason::BadLength => 15,
-            Reason::ShortBuffer => 16,
-            Reason::LongInput => 17,
-            Reason::UnknownWord => 18,
-            Reason::NotANumber => 19,
-            Reason::WrongCount => 20,
-        }
+        self as u8
     }
 }
 
 // A refusal: the question answered no, the place that it names (else 0), and the layer that found it.
-#[derive(Clone, Copy)]
+#[derive(Clone, Copy, PartialEq, Eq, Debug)]
 pub struct Refusal {
     pub reason: Reason,
     pub place: usize,
     pub layer: Layer,
+}
+
+impl Refusal {
+    // A refusal by a layer.
+    pub fn new(layer: Layer, reason: Reason, place: usize) -> Refusal
+        ensures { result ≡ refusal layer reason place }
+    {
+        Refusal {
+            reason,
+            place,
+            layer,
+        }
+    }
 }

@@ -12,7 +12,7 @@ pub const MOST_WEIGHT: u32 = 255;
 const DISTANCES: [u8; 14] = [64, 32, 22, 16, 13, 11, 10, 8, 7, 6, 5, 4, 3, 2];
 
 // What a session is given: a turn every `spacing` slots, so `size` slots, and `grant` units in all of them.
-#[derive(Clone, Copy)]
+#[derive(Clone, Copy, PartialEq, Eq, Debug)]
 pub struct Service {
     pub spacing: usize,
     pub size: usize,

@@ -1,11 +1,8 @@
-use Rattle.std.proofs.Common.{◌≡◌, suc, ◌+◌, ◌-◌, ◌^◌, ◌≤◌, sym, ap, ◌∙◌, subst, arith, pow_mono, pow-add}
+use Rattle.std.proofs.Common.{◌≡◌, suc, ◌+◌, ◌-◌, sym, ap, ◌∙◌, subst, arith, pow-add}
 use Rattle.table.specs.Slots.{bits}
 use Rattle.table.specs.Reversal.{reversed, OffsetOfSet, SetOfOffset}
 use Rattle.table.proofs.Reversals.{turn, reversed_none, reversed_below, reversed_twice, offset_of_set, set_of_offset}
 use Rattle.table.proofs.rank.reverse.Goals as goal
-
-pub overflow_mul-out : goal.overflow_mul-out
-overflow_mul-out c = let p : 2 ^ c.loop-i.i ≤ 2 ^ 5 = pow_mono {i = c.loop-i.i} {j = 5} (omega arith) in omega arith
 
 pub loop-i-preserved : goal.loop-i-preserved
 loop-i-preserved c =

@@ -1,7 +1,7 @@
 use Rattle.std.proofs.Common.{◌≡◌, ℕ, ◌*◌, ◌<◌, ◌≤◌, sym, refl, subst, arith}
 use Rattle.table.specs.Slots.{bits, slots, most_weight}
 use Rattle.table.specs.Services.{serves, spacing, IsSpacing}
-use Rattle.table.proofs.Spacings.{Tried, halve, found, last, positive, bounded, spacing_rule}
+use Rattle.table.proofs.Spacings.{Tried, found, last, positive, bounded, spacing_rule}
 use Rattle.table.proofs.service.spacing.Goals as goal
 
 -- what the loop knows, with what it tries and what it comes to
@@ -19,9 +19,6 @@ loop-t-init c = record { power = (bits, omega arith, refl, refl) }
 
 pub serves-requires : goal.serves-requires
 serves-requires c = within c.args.distance c.args.weight c.loop-t.t c.loop-t.invariant
-
-pub loop-t-preserved : goal.loop-t-preserved
-loop-t-preserved c = halve (serves bits c.args.distance c.args.weight) bits (spacing bits c.args.distance c.args.weight) c.loop-t.t c.loop-t.invariant (omega arith) (sym c.if-not-serves.ensures)
 
 pub returns-else-not-serves : goal.returns-else-not-serves
 returns-else-not-serves c = let is = found (serves bits c.args.distance c.args.weight) bits (spacing bits c.args.distance c.args.weight) c.loop-t.t c.loop-t.invariant (omega arith) (sym c.if-not-serves.ensures) in record {
