@@ -1,16 +1,16 @@
 -- Exchanges of entries in a row, and the sizes and numbers of sets.
-use Rattle.std.proofs.Common.{◌≡◌, ℕ, zero, suc, ◌+◌, ◌-◌, ◌*◌, ◌/◌, ◌%◌, ◌^◌, ◌<◌, ◌≤◌, Bool, ◌⊎◌, ◌↔◌, length, get_or, None, Decides, sym, ap, ◌∙◌, inl, inr, div-mul-le_self, arith, pow_pos, pow_mono}
+use Rattle.std.proofs.Common.{◌≡◌, ℕ, zero, suc, ◌+◌, ◌-◌, ◌*◌, ◌/◌, ◌^◌, ◌<◌, ◌≤◌, Bool, ◌⊎◌, ◌↔◌, length, get_or, None, Decides, sym, ap, ◌∙◌, inl, inr, div-mul-le_self, arith, pow_pos, pow_mono}
 use Rattle.std.proofs.lemmas.Bool.{cases_eq}
 use Rattle.book.proofs.Views.{Swapped}
 use Rattle.book.specs.Entries.{Ranks}
 use Rattle.book.specs.Levels.{up, dbl, sw, Free}
 use Rattle.book.specs.Sound.{FreeSet, FreeRank}
 use Rattle.std.proofs.lemmas.Bool.Decides.{Decides-like}
-use Rattle.std.proofs.lemmas.Nat.{one_shl, le-div, mul-le}
+use Rattle.std.proofs.lemmas.Nat.{le-div, mul-le}
 use Rattle.book.proofs.Counts.{dbl_pow}
 use Rattle.book.proofs.Levels.{tr_left, tr_right}
 use Rattle.book.proofs.Doubles.{dbl_two, dbl_add}
-use Rattle.book.proofs.Places.{in_set, set_in, size_pow, free_all, all_free}
+use Rattle.book.proofs.Places.{in_set, set_in, free_all, all_free}
 use Rattle.book.proofs.Swaps.{sw_fix}
 
 -- one more pair is exchanged
@@ -68,12 +68,6 @@ swapped_sw p q s xs ys h r =
             ∙ ap (λ x. get_or xs x None) (sym (sw_fix p q s r n m))
       ]
     ]
-
-pub shl_size : (i : ℕ) → i ≤ 6 → (1 * 2 ^ i) % 2 ^ 64 ≡ dbl i 1
-shl_size i h = one_shl i 64 (omega arith) ∙ sym (size_pow i)
-
-pub size_small : (i : ℕ) → i ≤ 6 → dbl i 1 ≤ 64
-size_small i h = let z : 2 ^ i ≤ 2 ^ 6 = pow_mono h in omega (arith, size_pow i, z)
 
 -- how many sets of a level there are
 pub sets_count : (n i q : ℕ) → (q < n / 2 ^ i) ↔ (dbl i q + dbl i 1 ≤ n)

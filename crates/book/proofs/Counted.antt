@@ -1,43 +1,62 @@
--- The steps of loops that count, and what the slots that differ come to.
-use Rattle.std.proofs.Common.{◌≡◌, ℕ, suc, ◌+◌, ◌<◌, ◌≤◌, Bool, true, false, cond, not, eqb, List, [], ◌∷◌, length, get_or, drop, sym, refl, ap, ◌∙◌, arith}
-use Rattle.std.proofs.lemmas.List.{at_drop_more, at_drop_all}
-use Rattle.std.proofs.lemmas.Bool.{and_parts, eqb-true}
+-- The ranks that are free, counted by bits, and the slots that differ.
+use Rattle.std.proofs.Common.{◌≡◌, ℕ, zero, suc, ◌+◌, ◌-◌, ◌*◌, ◌/◌, ◌%◌, ◌^◌, ◌<◌, ◌≤◌, inl, inr, ◌&&◌, Bool, true, false, cond, not, eqb, List, [], ◌∷◌, length, filter, zip, sym, refl, ap, ◌∙◌, arith}
+use Rattle.std.specs.Int.Count.{ones, ones_step}
+use Rattle.std.proofs.Math.Nat.{div-div-eq-div-mul}
+use Rattle.book.specs.Bits.{part, free_bits}
+use Rattle.book.proofs.Room.{count_same}
+use Rattle.std.proofs.lemmas.Bool.{cases_eq, eq-eqb, ne_eqb, le-leb, and_parts, eqb-true}
 use Rattle.table.specs.declared.slot.Slot.{Slot}
-use Rattle.table.specs.Slots.{empty_slot, same_slot}
+use Rattle.table.specs.Slots.{same_slot}
 use Rattle.book.specs.Searches.{count}
 use Rattle.book.specs.Slots.{differ, changed_slots, written}
 
-pub count_more : (test : ℕ → Bool) (k c : ℕ) → c ≡ count test k → test k ≡ true → c + 1 ≡ count test (k + 1)
-count_more test k c e t =
-    let z : k + 1 ≡ suc k = omega arith in
-    omega (arith, ap (count test) z, ap (λ b. cond {A = ℕ} b 1 0) t)
+count_shift : (test : ℕ → Bool) (k : ℕ) → count test (suc k) ≡ cond (test 0) 1 0 + count (λ r. test (suc r)) k
+count_shift test zero = refl
+count_shift test (suc k) = omega (arith, count_shift test k)
 
-pub count_less : (test : ℕ → Bool) (k c : ℕ) → c ≡ count test k → test k ≡ false → c ≡ count test (k + 1)
-count_less test k c e t =
-    let z : k + 1 ≡ suc k = omega arith in
-    omega (arith, ap (count test) z, ap (λ b. cond {A = ℕ} b 1 0) t)
+-- the zeros among the k lowest bits
+zeros : (k n : ℕ) → n < 2 ^ k → ones (2 ^ k - 1 - n) ≡ count (λ r. eqb (part n r 1) 0) k
+unfolding ones
+zeros zero n l = let e : 2 ^ 0 - 1 - n ≡ 0 = omega arith in ap ones e
+zeros (suc k) n l =
+    let m : ℕ = 2 ^ suc k - 1 - n in
+    let test : ℕ → Bool = λ r. eqb (part n r 1) 0 in
+    let half : m / 2 ≡ 2 ^ k - 1 - n / 2 = omega arith in
+    let low : m % 2 ≡ 1 - n % 2 = omega arith in
+    let more = count_same (λ r. test (suc r)) (λ r. eqb (part (n / 2) r 1) 0) k (λ r _. ap (λ x. eqb (x % 2 ^ 1) 0) (halved r)) in
+    omega (arith, ones_step m, ap ones half, low, zeros k (n / 2) (omega arith), count_shift test k, more, lowest)
+  where
+    halved : (r : ℕ) → n / 2 ^ suc r ≡ n / 2 / 2 ^ r
+    halved r = let e : 2 ^ suc r ≡ 2 * 2 ^ r = omega arith in ap (λ x. n / x) e ∙ sym (div-div-eq-div-mul n 2 (2 ^ r))
 
--- two tables, from a slot on
-changed_more : (old new : List Slot) (i : ℕ) → i < length old → i < length new
-    → changed_slots (drop i old) (drop i new) ≡ cond (differ (get_or old i empty_slot) (get_or new i empty_slot)) 1 0 + changed_slots (drop (i + 1) old) (drop (i + 1) new)
+    lowest : cond {A = ℕ} (eqb (part n 0 1) 0) 1 0 ≡ 1 - n % 2
+    lowest =
+        let e : part n 0 1 ≡ n % 2 = omega arith in
+        elim (cases_eq (part n 0 1) 0) [
+          | inl z ↦ omega (arith, ap (λ b. cond {A = ℕ} b 1 0) (eq-eqb (part n 0 1) 0 z), z, e)
+          | inr z ↦ omega (arith, ap (λ b. cond {A = ℕ} b 1 0) (ne_eqb (part n 0 1) 0 z), z, e)
+        ]
+
+-- the free ranks of a table of 2 ^ n, as the bits that are zero
+pub zeros_free : (n held : ℕ) → held < 2 ^ 2 ^ n → ones (2 ^ 2 ^ n - 1 - held) ≡ count (free_bits n held 0) (2 ^ n)
+unfolding free_bits
+zeros_free n held l =
+    zeros (2 ^ n) held l ∙ count_same (λ r. eqb (part held r 1) 0) (free_bits n held 0) (2 ^ n) (λ r u.
+    let e : r * 2 ^ 0 ≡ r = omega arith in
+    let z : r * 2 ^ 0 + 2 ^ 0 ≤ 2 ^ n = omega arith in
+    ap (λ x. eqb (part held x 1) 0) (sym e) ∙ ap (λ b. b && eqb (part held (r * 2 ^ 0) 1) 0) (sym (le-leb (r * 2 ^ 0 + 2 ^ 0) (2 ^ n) z)))
+
+-- the pairs of slots that differ
+pub changed_zip : (old new : List Slot) → length (filter (λ (p : Slot × Slot). differ p.0 p.1) (zip old new)) ≡ changed_slots old new
 unfolding changed_slots
-changed_more old new i l m =
-    at_drop_more (λ xs. changed_slots xs (drop i new)) old i empty_slot l
-    ∙ at_drop_more (λ ys. changed_slots (get_or old i empty_slot ∷ drop (i + 1) old) ys) new i empty_slot m
-
-pub changed_one : (old new : List Slot) (i c : ℕ) → i < length old → i < length new → same_slot (get_or old i empty_slot) (get_or new i empty_slot) ≡ false
-    → c + changed_slots (drop i old) (drop i new) ≡ changed_slots old new → c + 1 + changed_slots (drop (i + 1) old) (drop (i + 1) new) ≡ changed_slots old new
-changed_one old new i c l m t e =
-    omega (arith, changed_more old new i l m, ap (λ b. cond {A = ℕ} (not b) 1 0) t, e)
-
-pub changed_none : (old new : List Slot) (i c : ℕ) → i < length old → i < length new → same_slot (get_or old i empty_slot) (get_or new i empty_slot) ≡ true
-    → c + changed_slots (drop i old) (drop i new) ≡ changed_slots old new → c + changed_slots (drop (i + 1) old) (drop (i + 1) new) ≡ changed_slots old new
-changed_none old new i c l m t e =
-    omega (arith, changed_more old new i l m, ap (λ b. cond {A = ℕ} (not b) 1 0) t, e)
-
-pub changed_end : (old new : List Slot) (i c : ℕ) → length old ≤ i → c + changed_slots (drop i old) (drop i new) ≡ changed_slots old new → c ≡ changed_slots old new
-unfolding changed_slots
-changed_end old new i c l e = omega (arith, e, at_drop_all (λ xs. changed_slots xs (drop i new)) old i l)
+changed_zip [] new = refl
+changed_zip (a ∷ old) [] = refl
+changed_zip (a ∷ old) (b ∷ new) = one (differ a b) ∙ ap (λ k. cond (differ a b) 1 0 + k) (changed_zip old new)
+  where
+    one : (t : Bool) → length (cond t ((a, b) ∷ filter (λ (p : Slot × Slot). differ p.0 p.1) (zip old new)) (filter (λ (p : Slot × Slot). differ p.0 p.1) (zip old new)))
+        ≡ cond t 1 0 + length (filter (λ (p : Slot × Slot). differ p.0 p.1) (zip old new))
+    one true = omega arith
+    one false = omega arith
 
 -- slots of one content are the same, so writing what differs gives the new table
 same_slot_lem : (a b : Slot) → same_slot a b ≡ true → a ≡ b

@@ -1,22 +1,22 @@
 -- The tests of sets decide what they test.
-use Rattle.std.proofs.Common.{◌≡◌, ℕ, zero, suc, ◌+◌, ◌-◌, ◌*◌, ◌/◌, ◌^◌, ◌<◌, ◌≤◌, Bool, true, false, not, ◌&&◌, eqb, ltb, leb, ◌⊎◌, [], ◌∷◌, length, get_or, Some, None, Decides, sym, refl, ap, ◌∙◌, subst, inl, inr, arith, pow_pos, MatchOption}
+use Rattle.std.proofs.Common.{◌≡◌, ℕ, zero, suc, ◌+◌, ◌-◌, ◌*◌, ◌/◌, ◌^◌, ◌<◌, ◌≤◌, true, false, not, ◌&&◌, eqb, ltb, leb, ◌⊎◌, [], ◌∷◌, length, get_or, Some, None, Decides, sym, refl, ap, ◌∙◌, subst, inl, inr, arith, pow-add, pow_pos, MatchOption}
 use lib.ListN.{get_or-eq_default}
 use Rattle.std.specs.List.{swap}
 use Rattle.std.specs.List.Sorted.{IsPermutation}
 use Rattle.std.proofs.lemmas.List.Edits.{swapped_from_swap, length-swap}
 use Rattle.std.proofs.lemmas.List.Sorted.{IsPermutation-refl, IsPermutation-trans, IsPermutation-swap}
 use Rattle.std.proofs.lemmas.List.FromFn.{length-map-range_with_len, get_or-map-range_with_len, fill_by_all}
-use Rattle.std.proofs.lemmas.Bool.{cases_eq, cases_lt, cases_Bool, both_ways, not-true, not_from_false, not_from_true, and_parts, and_from, and_left, and_right, leb-true, le-leb, cond-true, cond-false, cond_both}
+use Rattle.std.proofs.lemmas.Bool.{cases_eq, cases_lt, cases_Bool, both_ways, not-true, not_from_false, and_parts, and_from, leb-true, le-leb, cond-true, cond-false, cond_both}
 use Rattle.std.proofs.lemmas.Bool.Decides.{nat_tests, Decides-and, Decides-not, Decides-ltb, Decides-eqb}
-use Rattle.book.specs.FreeSets.{FreeSets, climb_by, whole_by}
+use Rattle.book.specs.FreeSets.{FreeSets, climb_by}
 use Rattle.book.specs.Levels.{up, dbl, Free, Whole, FreeIn}
 use Rattle.book.specs.Sound.{FreeSet}
 use Rattle.book.proofs.Views.{Swapped, Loose}
 use Rattle.book.specs.Entries.{size_at, size_of, Ranks}
 use Rattle.book.specs.Sets.{meets, clear_from, clear, is_free, is_whole, lowest_free}
-use Rattle.book.specs.Searches.{last_below}
 use Rattle.book.specs.Moves.{other_whole, climb, loose_rank, source, exchanged}
-use Rattle.book.proofs.Found.{cases_map, first_cases, last_cases, last_skip, last_hit}
+use Rattle.std.proofs.lemmas.Nat.{mul-le}
+use Rattle.book.proofs.Found.{cases_map, first_cases, last_cases}
 use Rattle.book.proofs.Places.{within, size_pow}
 use Rattle.book.proofs.Counts.{dbl_pow}
 use Rattle.book.proofs.Blocks.{decides_set, sets_count, swapped_more}
@@ -226,16 +226,6 @@ loose_rank_cases n xs i =
     (λ x h. ((loose_decides n xs i x).0 h.0, λ a t. h.2 a t.0.0 ((loose_decides n xs i a).1 t)))
     (last_cases (λ r. is_free n xs 0 r && not (is_free n xs i (r / 2 ^ i))) (2 ^ n))
 
--- what the code's tests answer
-pub whole_is : (free : FreeSets) (i q : ℕ) (r : Bool) → free i q ≡ true → r ≡ free (i + 1) (q / 2) → not r ≡ whole_by free i q
-whole_is free i q r h e =
-    let z : i + 1 ≡ suc i = omega arith in
-    ap not (e ∙ ap (λ x. free x (q / 2)) z) ∙ ap (λ b. b && not (free (suc i) (q / 2))) (sym h)
-
--- how many sets of a level the code goes through
-pub count_at : (n j m r i : ℕ) → r ≡ m / 2 ^ j → m ≡ 2 ^ n → i < r → i < 2 ^ n / 2 ^ j
-count_at n j m r i e z l = omega (arith, e, ap (λ x. x / 2 ^ j) z)
-
 -- what is found, as the code has it
 pub lowest_found : (n : ℕ) (xs : Ranks) (i q : ℕ) → Some q ≡ lowest_free n xs i → Free (FreeIn n xs) i q × ((a : ℕ) → Free (FreeIn n xs) i a → q ≤ a)
 lowest_found n xs i q e =
@@ -248,26 +238,6 @@ other_found n xs i p o e =
 pub loose_found : (n : ℕ) (xs : Ranks) (i x : ℕ) → Some x ≡ loose_rank n xs i → Loose n xs i x × ((a : ℕ) → Loose n xs i a → a ≤ x)
 loose_found n xs i x e =
     subst (λ r. MatchOption r ((a : ℕ) → Loose n xs i a → ⊥) (λ x. Loose n xs i x × ((a : ℕ) → Loose n xs i a → a ≤ x))) (sym e) (loose_rank_cases n xs i)
-
--- a step of the search for a loose rank, the one below k
-module _ (free : FreeSets) (i k : ℕ) (pos : 0 < k) where
-  pub loose_hit : (q : ℕ) → q ≡ (k - 1) / 2 ^ i → true ≡ free 0 (k - 1) → false ≡ free i q → last_below (λ r. free 0 r && not (free i (r / 2 ^ i))) k ≡ Some (k - 1)
-  loose_hit q e a b =
-      last_hit (λ r. free 0 r && not (free i (r / 2 ^ i))) k pos
-      (and_from (free 0 (k - 1)) (not (free i ((k - 1) / 2 ^ i))) (sym a)
-      (not_from_false (free i ((k - 1) / 2 ^ i)) (ap (free i) (sym e) ∙ sym b)))
-
-  pub loose_around : (q : ℕ) → q ≡ (k - 1) / 2 ^ i → true ≡ free i q
-      → last_below (λ r. free 0 r && not (free i (r / 2 ^ i))) k ≡ last_below (λ r. free 0 r && not (free i (r / 2 ^ i))) (k - 1)
-  loose_around q e b =
-      last_skip (λ r. free 0 r && not (free i (r / 2 ^ i))) k pos
-      (and_right (free 0 (k - 1)) (not (free i ((k - 1) / 2 ^ i))) (not_from_true (free i ((k - 1) / 2 ^ i)) (ap (free i) (sym e) ∙ sym b)))
-
-  pub loose_held : false ≡ free 0 (k - 1)
-      → last_below (λ r. free 0 r && not (free i (r / 2 ^ i))) k ≡ last_below (λ r. free 0 r && not (free i (r / 2 ^ i))) (k - 1)
-  loose_held a =
-      last_skip (λ r. free 0 r && not (free i (r / 2 ^ i))) k pos
-      (and_left (free 0 (k - 1)) (not (free i ((k - 1) / 2 ^ i))) (sym a))
 
 pub lowest_in : (n : ℕ) (xs : Ranks) (i q : ℕ) → Some q ≡ lowest_free n xs i → q * 2 ^ i + 2 ^ i ≤ 2 ^ n
 lowest_in n xs i q e = inside n i q (within n (size_at xs) i q (lowest_found n xs i q e).0)
@@ -299,8 +269,13 @@ free_inside n xs i q h = inside n i q (within n (size_at xs) i q h)
 pub parent_inside : (n l q : ℕ) → l < n → q * 2 ^ l + 2 ^ l ≤ 2 ^ n → q / 2 * 2 ^ (l + 1) + 2 ^ (l + 1) ≤ 2 ^ n
 parent_inside n l q lt h = inside n (l + 1) (q / 2) (parent_in n l q lt (inside_dbl n l q h))
 
-pub count_inside : (n i q : ℕ) → q < 2 ^ n / 2 ^ i → q * 2 ^ i + 2 ^ i ≤ 2 ^ n
-count_inside n i q h = inside n i q ((sets_count (2 ^ n) i q).0 h)
+pub brother_inside : (n l q b : ℕ) → l < n → q * 2 ^ l + 2 ^ l ≤ 2 ^ n → b / 2 ≡ q / 2 → b * 2 ^ l + 2 ^ l ≤ 2 ^ n
+brother_inside n l q b lt h e =
+    let two : 2 ^ (l + 1) ≡ 2 * 2 ^ l = omega (arith, pow-add 2 l 1) in
+    let below : b + 1 ≤ 2 * (q / 2) + 2 = omega (arith, e) in
+    let one : (b + 1) * 2 ^ l ≡ b * 2 ^ l + 2 ^ l = omega arith in
+    let both : (2 * (q / 2) + 2) * 2 ^ l ≡ q / 2 * 2 ^ (l + 1) + 2 ^ (l + 1) = ap (λ x. x) (omega arith) ∙ ap (λ x. q / 2 * x + x) (sym two) in
+    omega (arith, parent_inside n l q lt h, mul-le (b + 1) (2 ^ l) (2 * (q / 2) + 2) (2 ^ l) below (omega arith), one, both)
 
 pub rank_inside : (n s r q : ℕ) → s ≤ n → r < 2 ^ n → q ≡ r / 2 ^ s → q * 2 ^ s + 2 ^ s ≤ 2 ^ n
 rank_inside n s r q l h e = inside n s q (rank_in n s r q l h (e ∙ around s r))

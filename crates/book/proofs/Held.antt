@@ -1,5 +1,5 @@
 -- The held ranks of a book as bits: which sets are free by them, and what a change of the book makes of them.
-use Rattle.std.proofs.Common.{◌≡◌, ℕ, zero, suc, ◌+◌, ◌-◌, ◌*◌, ◌/◌, ◌%◌, ◌^◌, ◌<◌, ◌≤◌, Bool, true, false, cond, not, ◌&&◌, eqb, leb, ◌⊎◌, length, set, is_some, Some, None, Decides, Option, sym, refl, ap, ◌∙◌, subst, inl, inr, mod-lt, div-mul-le_self, arith, pow_pos, pow_mono, shl_exact, MatchOption}
+use Rattle.std.proofs.Common.{◌≡◌, ℕ, zero, suc, ◌+◌, ◌-◌, ◌*◌, ◌/◌, ◌%◌, ◌^◌, ◌<◌, ◌≤◌, Bool, true, false, cond, not, ◌&&◌, eqb, leb, ◌⊎◌, length, set, is_some, Some, None, Decides, Option, sym, refl, ap, ◌∙◌, subst, inl, inr, mod-lt, div-mul-le_self, arith, pow_pos, pow_mono, length-set, shl_exact}
 use lib.Pow.{pow-lt}
 use native.Mathlib.Nat.{mod-le}
 use Rattle.std.proofs.lemmas.Nat.{mul-le}
@@ -7,17 +7,18 @@ use Rattle.std.proofs.lemmas.Bool.{cases_eq, cases_Bool, both_ways, le-leb, lt-l
 use Rattle.std.proofs.lemmas.Bool.Decides.{same_from_decides}
 use Rattle.book.specs.FreeSets.{around_by, climb_by, loose_by, lowest_by, lowest_first_by, other_by}
 use Rattle.book.specs.declared.session.Session.{Session}
-use Rattle.book.specs.Entries.{Ranks, size_of, size_at, place_of, holds}
-use Rattle.book.specs.Standing.{Standing}
+use Rattle.book.specs.Entries.{Ranks, size_of, size_at, level_for, fits, place_of, holds}
+use Rattle.book.specs.Standing.{Seated, Standing}
 use Rattle.book.specs.Sets.{clear, is_free}
 use Rattle.book.specs.Bits.{bits_of, held_bits, part, free_bits}
 use Rattle.book.specs.Levels.{up, dbl, sw, FreeIn, Free, Beside}
 use Rattle.book.specs.Sound.{FreeSet, Sound}
 use Rattle.book.specs.Searches.{count}
 use Rattle.book.specs.Moves.{brother, exchanged_sets, other_whole, loose_rank, climb, whole_around}
-use Rattle.book.specs.Books.{empty_ranks, lowest_first, free_ranks}
-use Rattle.book.proofs.Found.{first_cases}
-use Rattle.book.proofs.Placed.{Place}
+use Rattle.book.specs.Books.{empty_ranks, lowest_first, place_for, free_ranks}
+use Rattle.book.specs.RankSets.{Found, PutOn}
+use Rattle.book.specs.declared.rank_set.RankSet.{RankSet}
+use Rattle.book.proofs.Placed.{Place, level_found, first_is, first_none, place_is}
 use Rattle.book.proofs.Keeping.{none_at, number_found}
 use Rattle.book.proofs.Numbers.{place_holds}
 use Rattle.book.proofs.Bits.{bits_below, bits_same, bits_none, none_bits, bits_all, part_bits, bits_change}
@@ -25,11 +26,11 @@ use Rattle.book.proofs.Views.{Swapped}
 use Rattle.book.proofs.Levels.{up_half, tr_left, tr_right}
 use Rattle.book.proofs.Filling.{up_dbl, free_first}
 use Rattle.book.proofs.Places.{in_set, set_in, size_pow, all_free, within, index_below}
-use Rattle.book.proofs.Steps.{filled_to, filled_from, freed_to, freed_from, gone_free, session_at, level_in, index_in, exchange_sound, exchange_to, exchange_from}
+use Rattle.book.proofs.Steps.{filled_to, filled_from, freed_to, freed_from, gone_free, gone_sound, session_at, level_in, index_in, exchange_sound, exchange_to, exchange_from}
 use Rattle.book.proofs.Moved.{brother_near, sets_swapped}
 use Rattle.book.proofs.Blocks.{sw_place, table_small}
 use Rattle.book.proofs.Swaps.{sw_fix, up_held}
-use Rattle.book.proofs.Decided.{firsts, sizes, around, count_inside, inside_dbl, free_inside, clear_decides, is_free_decides}
+use Rattle.book.proofs.Decided.{firsts, sizes, around, inside_dbl, free_inside, clear_decides, is_free_decides}
 
 -- a rank is held
 abbrev held_at : ℕ → Ranks → ℕ → Bool
@@ -139,7 +140,7 @@ filled_bits n j q xs h len low size sound free least =
     set_bits n j q xs (set xs (dbl j q) (Some h)) (within n (size_at xs) j q free) free (λ r u. (to r u).1)
     (λ r e u. filled_from n j q xs h len low size sound free least r u e) (λ r u. (to r u).0)
 
-pub taken_bits : (n : ℕ) (xs : Ranks) (s : Session) (f held taken : ℕ) → Place n xs s f → Standing n xs → held ≡ held_bits n xs → taken ≡ (2 ^ s.size - 1) * 2 ^ f
+pub taken_bits : (n : ℕ) (xs : Ranks) (s : Session) (f held taken : ℕ) → Place n xs s f → Seated n xs → held ≡ held_bits n xs → taken ≡ (2 ^ s.size - 1) * 2 ^ f
     → held + taken ≡ held_bits n (set xs f (Some s))
 taken_bits n xs s f held taken p h is et =
     let j : ℕ = p.level in
@@ -161,6 +162,15 @@ freed_bits n f j xs len size sound =
     (λ r e u. freed_to n f j a xs len t.0 t.1 t.2 sound r u e)
     (freed_from n f j a xs len t.0 t.1 t.2 sound)
     ∙ ap (λ x. held_bits n (set xs f None) + (2 ^ 2 ^ j - 1) * 2 ^ x) (firsts j a ∙ sym t.0)
+
+pub freed_held : (n : ℕ) (xs : Ranks) (f j held freed : ℕ) → Seated n xs → held ≡ held_bits n xs → size_at xs f ≡ 2 ^ j → freed ≡ (2 ^ 2 ^ j - 1) * 2 ^ f
+    → held ≡ held_bits n (set xs f None) + freed
+freed_held n xs f j held freed h is size e = is ∙ freed_bits n f j xs (omega (arith, h.long)) size h.sound ∙ ap (λ x. held_bits n (set xs f None) + x) (sym e)
+
+pub gone_seated : (n : ℕ) (xs : Ranks) (f j : ℕ) → Seated n xs → size_at xs f ≡ 2 ^ j → Seated n (set xs f None)
+gone_seated n xs f j h size =
+    let t = session_at n xs f j h.sound size in
+    record { long = length-set xs f None ∙ h.long; sound = gone_sound n f j (up j f) xs (omega (arith, h.long)) t.0 t.1 t.2 h.sound }
 
 -- The sets p and q of level s are exchanged, of which p was free: the bits of q move to p.
 module _ (n s p q : ℕ) (xs ys : Ranks) (hp : dbl s p + dbl s 1 ≤ 2 ^ n) (hq : dbl s q + dbl s 1 ≤ 2 ^ n) (apart : p ≡ q → ⊥)
@@ -261,6 +271,9 @@ module _ (n s p q : ℕ) (xs : Ranks) (len : 2 ^ n ≤ length xs) (sound : Sound
       exchange_sound n (n - s) s p q xs (exchanged_sets xs s p q) (omega (arith, exchange_low)) (index_in n xs s p free) below_q sound swapped (dbl s p) beside.0
       (free_first (FreeIn n xs) s p free) (up_half s (dbl s p) ∙ ap (λ x. x / 2) (up_dbl s p)) beside.1 beside.2
 
+  pub exchange_seated : length xs ≡ 2 ^ n → Seated n (exchanged_sets xs s p q)
+  exchange_seated long = record { long = swapped.len ∙ long; sound = exchange_keeps }
+
   -- the same as the code computes it, in numbers of 64 bits
   module _ (top : n ≤ 6) (held f g m y : ℕ) (is : held ≡ held_bits n xs) (ef : f ≡ p * 2 ^ s) (eg : g ≡ q * 2 ^ s) (em : m ≡ 2 ^ s) (ey : y ≡ part held g m) where
     whole_shift : (a x : ℕ) → x ≡ a * 2 ^ s → a * 2 ^ s + 2 ^ s ≤ 2 ^ n → (y * 2 ^ x) % 2 ^ 64 ≡ y * 2 ^ x
@@ -283,14 +296,6 @@ module _ (n s p q : ℕ) (xs : Ranks) (len : 2 ^ n ≤ length xs) (sound : Sound
         let at_f : y * 2 ^ f ≡ moved * 2 ^ (p * 2 ^ s) = ap (λ x. x * 2 ^ f) e ∙ ap (λ x. moved * 2 ^ x) ef in
         omega (arith, moved_part, shift_g, shift_f, at_g, at_f, is, exchange_held)
 
--- the lowest set that the code finds lies in the table
-pub lowest_within : (n held i q : ℕ) → Some q ≡ lowest_by n (free_bits n held) i → q * 2 ^ i + 2 ^ i ≤ 2 ^ n
-lowest_within n held i q e =
-    let none : Type 0 = (a : ℕ) → 0 ≤ a → a < 0 + 2 ^ n / 2 ^ i → free_bits n held i a ≡ true → ⊥ in
-    let t = subst (λ o. MatchOption o none (λ a. (free_bits n held i a ≡ true) × (a < 0 + 2 ^ n / 2 ^ i) × ((b : ℕ) → 0 ≤ b → b < a → free_bits n held i b ≡ true → ⊥)))
-    (sym e) (first_cases (free_bits n held i) 0 (2 ^ n / 2 ^ i)) in
-    count_inside n i q (omega (arith, t.1))
-
 -- the climb by the book's free sets
 climb_is : (n : ℕ) (xs : Ranks) (i q k : ℕ) → climb n xs i q k ≡ climb_by (is_free n xs) i q k
 climb_is n xs i q zero = refl
@@ -300,10 +305,6 @@ climb_is n xs i q (suc k) = ap (λ w. cond (is_free n xs (suc i) (q / 2)) w (i, 
 module _ (n : ℕ) (xs : Ranks) (held : ℕ) (is : held ≡ held_bits n xs) where
   pub other_is : (i p : ℕ) (o : Option ℕ) → o ≡ other_by n (free_bits n held) i p → o ≡ other_whole n xs i p
   other_is i p o e = e ∙ ap (λ free. other_by n free i p) (bits_free n xs held is)
-
-  -- of any index, where none is to be left out
-  pub any_is : (i len : ℕ) (o : Option ℕ) → len ≡ 2 ^ n → o ≡ other_by n (free_bits n held) i len → o ≡ other_whole n xs i (2 ^ n)
-  any_is i len o l e = other_is i len o e ∙ ap (other_whole n xs i) l
 
   pub loose_is : (i : ℕ) (o : Option ℕ) → o ≡ loose_by n (free_bits n held) i → o ≡ loose_rank n xs i
   loose_is i o e = e ∙ ap (λ free. loose_by n free i) (bits_free n xs held is)
@@ -318,3 +319,13 @@ module _ (n : ℕ) (xs : Ranks) (held : ℕ) (is : held ≡ held_bits n xs) wher
   pub free_ranks_is : (k : ℕ) → k ≡ count (free_bits n held 0) (2 ^ n) → k ≡ free_ranks n xs
   unfolding free_ranks
   free_ranks_is k e = e ∙ ap (λ free. count (free 0) (2 ^ n)) (bits_free n xs held is)
+
+  -- the set where the code puts a session
+  pub put_on : (s : Session) (i : ℕ) (set : Option RankSet) → fits n s ≡ true → is_some (place_of s.number xs) ≡ false → Some i ≡ level_for n s.size
+      → Found i (lowest_by n (free_bits n held) i) set → PutOn s (place_for n xs s) set
+  put_on s i None a b l h = sym (lowest_is s.size None (first_none (free_bits n held) n s.size i l (sym h)) ∙ place_is n xs s a b)
+  put_on s i (Some t) a b l h =
+      let z : t.index * 2 ^ t.level ≡ t.index * 2 ^ i = ap (λ k. t.index * 2 ^ k) h.0 in (
+        (level_found n s.size i l).1 ∙ ap (λ k. 2 ^ k) (sym h.0),
+        sym (lowest_is s.size (Some (t.index * 2 ^ t.level)) (first_is (free_bits n held) n s.size i t.index (t.index * 2 ^ t.level) l (sym h.1) z) ∙ place_is n xs s a b),
+      )

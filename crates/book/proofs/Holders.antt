@@ -1,80 +1,108 @@
 -- The session that holds a rank, and the slots that follow.
-use Rattle.std.proofs.Common.{◌≡◌, ℕ, suc, ◌+◌, ◌-◌, ◌*◌, ◌/◌, ◌%◌, ◌^◌, ◌<◌, ◌≤◌, Bool, true, false, cond, ◌&&◌, ltb, leb, ◌⊎◌, List, length, get_or, drop, set, Some, None, sym, refl, ap, ◌∙◌, inl, inr, div-add-mod', arith, length-set}
+use Rattle.std.proofs.Common.{◌≡◌, ℕ, zero, suc, ◌+◌, ◌-◌, ◌/◌, ◌%◌, ◌^◌, ◌<◌, ◌≤◌, Bool, true, false, cond, ◌&&◌, ltb, leb, ◌⊎◌, List, [], ◌∷◌, length, get_or, set, Some, None, Option, sym, refl, ap, ◌∙◌, inl, inr, div-add-mod', arith, length-set}
 use Rattle.std.proofs.lemmas.Nat.{mod-mul-add, mod_below}
 use Rattle.table.proofs.Reversals.{reversed_below, reversed_twice}
-use Rattle.std.proofs.lemmas.List.{at_drop_more, at_drop_all, get_or-set_same, get_or-set_other}
-use Rattle.std.proofs.lemmas.Bool.{cases_eq, cases_lt, cond_both, cond-true, cond-false, ltb-true, and_from, and_left, and_right, and_parts, leb-true, le-leb, lt-leb, lt-ltb, le-ltb}
+use Rattle.std.proofs.lemmas.List.{get_or-set_same, get_or-set_other}
+use Rattle.std.proofs.lemmas.Bool.{cases_Bool, cases_eq, cases_lt, cond_both, cond-true, cond-false, ltb-true, and_from, and_parts, leb-true, le-leb, lt-ltb, le-ltb}
 use Rattle.book.specs.declared.session.Session.{Session}
 use Rattle.book.specs.Entries.{Ranks, size_of, size_at, grant_of}
-use Rattle.book.specs.Slots.{holder_from, slot_for, carried, Lays, slot_in, contents}
+use Rattle.book.specs.Sound.{Sound}
+use Rattle.book.specs.Slots.{holder_from, slot_for, Lays, slot_in, contents}
 use Rattle.table.specs.declared.slot.Slot.{Slot}
-use Rattle.table.specs.Slots.{most_weight, empty_slot}
+use Rattle.table.specs.Slots.{empty_slot}
 use Rattle.table.specs.Reversal.{reversed}
-use Rattle.table.specs.Services.{weight_at, weight_in}
+use Rattle.table.specs.Services.{weight_at}
 use Rattle.std.proofs.lemmas.List.FromFn.{fill_by_all}
 
--- the steps of the search for a rank's session
-module _ (xs : Ranks) (f r : ℕ) (l : f < length xs) where
-  abbrev here : Bool
-  here = leb f r && ltb r (f + size_at xs f)
+-- who holds a rank
+pub holder_hit : (xs : Ranks) (k r i : ℕ) → i < length xs → k + i ≤ r → r < k + i + size_at xs i
+    → ((j : ℕ) → j < i → k + j ≤ r → r < k + j + size_at xs j → ⊥) → holder_from k xs r ≡ get_or xs i None
+holder_hit [] k r i l a c none = absurd (omega arith)
+holder_hit (x ∷ xs) k r zero l a c none =
+    cond-true (leb k r && ltb r (k + size_of x)) x (holder_from (suc k) xs r) (and_from (leb k r) (ltb r (k + size_of x)) (le-leb k r (omega arith)) (lt-ltb r (k + size_of x) (omega arith)))
+holder_hit (x ∷ xs) k r (suc i) l a c none =
+    go (cases_Bool (leb k r && ltb r (k + size_of x))) (holder_hit xs (suc k) r i (omega arith) (omega arith) (omega arith) (λ j m p q. none (suc j) (omega arith) (omega arith) (omega arith)))
+  where
+    go : ((leb k r && ltb r (k + size_of x)) ≡ true) ⊎ ((leb k r && ltb r (k + size_of x)) ≡ false) → holder_from (suc k) xs r ≡ get_or xs i None → holder_from k (x ∷ xs) r ≡ get_or xs i None
+    go (inl t) ih =
+        let p = and_parts (leb k r) (ltb r (k + size_of x)) t in
+        absurd (none 0 (omega arith) (omega (arith, leb-true k r p.0)) (omega (arith, ltb-true r (k + size_of x) p.1)))
+    go (inr t) ih = cond-false (leb k r && ltb r (k + size_of x)) x (holder_from (suc k) xs r) t ∙ ih
 
-  opened : holder_from f (drop f xs) r ≡ cond here (get_or xs f None) (holder_from (suc f) (drop (f + 1) xs) r)
-  opened = at_drop_more (λ ys. holder_from f ys r) xs f None l
+pub holder_found : (xs : Ranks) (k r : ℕ) (s : Session) → holder_from k xs r ≡ Some s → (i : ℕ) × (i < length xs) × (get_or xs i None ≡ Some s) × (k + i ≤ r) × (r < k + i + s.size)
+holder_found [] k r s e = let z : ◌≡◌ {A = ℕ} 0 1 = cc in absurd (omega arith)
+holder_found (x ∷ xs) k r s e = go (cases_Bool (leb k r && ltb r (k + size_of x))) (holder_found xs (suc k) r s)
+  where
+    go : ((leb k r && ltb r (k + size_of x)) ≡ true) ⊎ ((leb k r && ltb r (k + size_of x)) ≡ false)
+        → (holder_from (suc k) xs r ≡ Some s → (i : ℕ) × (i < length xs) × (get_or xs i None ≡ Some s) × (suc k + i ≤ r) × (r < suc k + i + s.size))
+        → (i : ℕ) × (i < suc (length xs)) × (get_or (x ∷ xs) i None ≡ Some s) × (k + i ≤ r) × (r < k + i + s.size)
+    go (inl t) ih =
+        let p = and_parts (leb k r) (ltb r (k + size_of x)) t in
+        let is_x : x ≡ Some s = sym (cond-true (leb k r && ltb r (k + size_of x)) x (holder_from (suc k) xs r) t) ∙ e in
+        (0, omega arith, is_x, omega (arith, leb-true k r p.0), omega (arith, ltb-true r (k + size_of x) p.1, ap size_of is_x))
+    go (inr t) ih =
+        let q = ih (sym (cond-false (leb k r && ltb r (k + size_of x)) x (holder_from (suc k) xs r) t) ∙ e) in
+        (suc q.0, omega (arith, q.1), q.2, omega (arith, q.3), omega (arith, q.4))
 
-  pub holder_hit : f ≤ r → r < f + size_at xs f → holder_from f (drop f xs) r ≡ get_or xs f None
-  holder_hit a b =
-      opened ∙ cond-true here (get_or xs f None) (holder_from (suc f) (drop (f + 1) xs) r) (and_from (leb f r) (ltb r (f + size_at xs f)) (le-leb f r a) (lt-ltb r (f + size_at xs f) b))
+pub holder_is : (n : ℕ) (xs : Ranks) → Sound n (size_at xs) → (f r : ℕ) (s : Session) → f < length xs → get_or xs f None ≡ Some s → f ≤ r → r < f + s.size → holder_from 0 xs r ≡ Some s
+holder_is n xs sound f r s l e a c =
+    holder_hit xs 0 r f l (omega arith) (omega (arith, ap size_of e))
+    (λ g m p q. absurd (omega (arith, m, sound.apart g f r (omega arith, omega arith) (a, omega (arith, ap size_of e))))) ∙ e
 
-  pub holder_skip : (r < f) ⊎ (f + size_at xs f ≤ r) → holder_from f (drop f xs) r ≡ holder_from (f + 1) (drop (f + 1) xs) r
-  holder_skip h =
-      let e : suc f ≡ f + 1 = omega arith in
-      let z : here ≡ false = elim h [
-        | inl a ↦ and_left (leb f r) (ltb r (f + size_at xs f)) (lt-leb f r a)
-        | inr a ↦ and_right (leb f r) (ltb r (f + size_at xs f)) (le-ltb r (f + size_at xs f) a)
-      ] in
-      opened ∙ cond-false here (get_or xs f None) (holder_from (suc f) (drop (f + 1) xs) r) z ∙ ap (λ k. holder_from k (drop (f + 1) xs) r) e
+-- the session of the entry g holds the rank r
+abbrev pub Sits : Ranks → ℕ → Session → ℕ → Type 0
+Sits xs g s r = (Some s ≡ get_or xs g None) × (g ≤ r) × (r < g + s.size)
 
-pub holder_end : (xs : Ranks) (f r : ℕ) → length xs ≤ f → holder_from f (drop f xs) r ≡ None
-holder_end xs f r l = at_drop_all (λ ys. holder_from f ys r) xs f l
+-- the slots of the entries below f are written, and all others are empty
+pub record LaidTo (n : ℕ) (xs : Ranks) (f : ℕ) (table : List Slot) : Type 0 where
+  pub long : length table ≡ 2 ^ n
+  pub held : (z g : ℕ) (s : Session) → z < 2 ^ n → g < f → Sits xs g s (reversed n z) → get_or table z empty_slot ≡ slot_for (reversed n z) (Some s)
+  pub others : (z : ℕ) → z < 2 ^ n → ((g : ℕ) (s : Session) → g < f → Sits xs g s (reversed n z) → ⊥) → get_or table z empty_slot ≡ empty_slot
 
--- the slots that are written from the right end of the book down to a rank
-abbrev pub LaidFrom : ℕ → Ranks → ℕ → List Slot → Type 0
-LaidFrom n xs f table = (length table ≡ 2 ^ n) × ((z : ℕ) → z < 2 ^ n → get_or table z empty_slot ≡ slot_for (reversed n z) (holder_from f (drop f xs) (reversed n z)))
+pub laid_none : (n : ℕ) (xs : Ranks) (table : List Slot) → length table ≡ 2 ^ n → ((z : ℕ) → z < 2 ^ n → get_or table z empty_slot ≡ empty_slot) → LaidTo n xs 0 table
+laid_none n xs table len h = record { long = len; held = λ z g s lt l at. absurd (omega arith); others = λ z lt none. h z lt }
 
-pub laid_none : (n : ℕ) (xs : Ranks) (f : ℕ) (table : List Slot) → length xs ≤ f → length table ≡ 2 ^ n → ((z : ℕ) → z < 2 ^ n → get_or table z empty_slot ≡ empty_slot) → LaidFrom n xs f table
-laid_none n xs f table l len h = (len, λ z lt. h z lt ∙ ap (slot_for (reversed n z)) (sym (holder_end xs f (reversed n z) l)))
+-- one entry more: it is a session, or none
+module _ (n : ℕ) (xs : Ranks) (f : ℕ) (table : List Slot) (laid : LaidTo n xs f table) where
+  pub laid_empty : None ≡ get_or xs f None → LaidTo n xs (f + 1) table
+  laid_empty e = record {
+    long = laid.long;
+    held = λ z g s lt l at. elim (cases_eq g f) [
+      | inl y ↦ let e2 : ◌≡◌ {A = Option Session} (Some s) None = at.0 ∙ ap (λ i. get_or xs i None) y ∙ sym e in let bad : ◌≡◌ {A = ℕ} 0 1 = cc in absurd (omega arith)
+      | inr y ↦ laid.held z g s lt (omega arith) at
+    ];
+    others = λ z lt none. laid.others z lt (λ g s l at. none g s (omega arith) at);
+  }
 
--- one rank further down: a session begins there, or none does
-module _ (n : ℕ) (xs : Ranks) (f g : ℕ) (l : f < length xs) (next : g ≡ f + 1) (table : List Slot) (laid : LaidFrom n xs g table) where
-  skipped : (z : ℕ) → (reversed n z < f) ⊎ (f + size_at xs f ≤ reversed n z) → slot_for (reversed n z) (holder_from g (drop g xs) (reversed n z)) ≡ slot_for (reversed n z) (holder_from f (drop f xs) (reversed n z))
-  skipped z out = ap (λ x. slot_for (reversed n z) (holder_from x (drop x xs) (reversed n z))) next ∙ ap (slot_for (reversed n z)) (sym (holder_skip xs f (reversed n z) l out))
+  pub laid_more : Sound n (size_at xs) → (s : Session) (new : List Slot) → Some s ≡ get_or xs f None → Lays n table new f s.size (λ r. slot_for r (Some s)) → LaidTo n xs (f + 1) new
+  laid_more sound s new e h = record {
+    long = h.long ∙ laid.long;
+    held = λ z g t lt l at. elim (cases_eq g f) [
+      | inl y ↦
+          let same : ◌≡◌ {A = Option Session} (Some s) (Some t) = e ∙ ap (λ i. get_or xs i None) (sym y) ∙ sym at.0 in
+          h.held z lt (omega (arith, y, at.1)) (omega (arith, y, at.2, ap size_of same)) ∙ ap (slot_for (reversed n z)) same
+      | inr y ↦
+          h.others z lt (out (reversed n z) (λ a b. y (sound.apart g f (reversed n z) (at.1, omega (arith, at.2, ap size_of at.0)) (a, omega (arith, b, ap size_of e)))))
+          ∙ laid.held z g t lt (omega arith) at
+    ];
+    others = λ z lt none. h.others z lt (out (reversed n z) (λ a b. none f s (omega arith) (e, a, b))) ∙ laid.others z lt (λ g t l at. none g t (omega arith) at);
+  }
+    where
+      out : (r : ℕ) → (f ≤ r → r < f + s.size → ⊥) → (r < f) ⊎ (f + s.size ≤ r)
+      out r not_in = elim (cases_lt r f) [ inl a ↦ inl a | inr a ↦ elim (cases_lt r (f + s.size)) [ inl b ↦ absurd (not_in a b) | inr b ↦ inr b ] ]
 
-  pub laid_empty : None ≡ get_or xs f None → LaidFrom n xs f table
-  laid_empty e = (
-    laid.0,
-    λ z lt. laid.1 z lt ∙ skipped z (elim (cases_lt (reversed n z) f) [ inl a ↦ inl a | inr a ↦ inr (omega (arith, ap size_of e)) ]),
-  )
-
-  pub laid_more : (s : Session) (new : List Slot) → Some s ≡ get_or xs f None → Lays n table new f s.size (λ r. slot_for r (Some s)) → LaidFrom n xs f new
-  laid_more s new e h = (
-    h.long ∙ laid.0,
-    λ z lt. elim (cases_lt (reversed n z) f) [
-      | inl a ↦ h.others z lt (inl a) ∙ laid.1 z lt ∙ skipped z (inl a)
-      | inr a ↦ elim (cases_lt (reversed n z) (f + s.size)) [
-        | inl b ↦ h.held z lt a b ∙ ap (slot_for (reversed n z)) (e ∙ sym (holder_hit xs f (reversed n z) l a (omega (arith, ap size_of e))))
-        | inr b ↦ h.others z lt (inr b) ∙ laid.1 z lt ∙ skipped z (inr (omega (arith, ap size_of e)))
-      ]
-    ],
-  )
-
-pub laid_all : (n : ℕ) (xs : Ranks) (table : List Slot) → LaidFrom n xs 0 table → table ≡ contents n xs
+pub laid_all : (n : ℕ) (xs : Ranks) (table : List Slot) → Sound n (size_at xs) → LaidTo n xs (length xs) table → table ≡ contents n xs
 unfolding contents
-laid_all n xs table h = fill_by_all (slot_in n xs) table (2 ^ n) empty_slot h.0 h.1
+laid_all n xs table sound laid = fill_by_all (slot_in n xs) table (2 ^ n) empty_slot laid.long (λ z lt. at z lt (holder_from 0 xs (reversed n z)) refl)
+  where
+    at : (z : ℕ) → z < 2 ^ n → (x : Option Session) → x ≡ holder_from 0 xs (reversed n z) → get_or table z empty_slot ≡ slot_in n xs z
+    at z lt None e =
+        laid.others z lt
+        (λ g s l sits. let e2 : ◌≡◌ {A = Option Session} None (Some s) = e ∙ holder_is n xs sound g (reversed n z) s l (sym sits.0) sits.1 sits.2 in let bad : ◌≡◌ {A = ℕ} 0 1 = cc in absurd (omega arith))
+        ∙ ap (slot_for (reversed n z)) e
+    at z lt (Some s) e = let q = holder_found xs 0 (reversed n z) s (sym e) in laid.held z q.0 s lt q.1 (sym q.2, omega (arith, q.3), omega (arith, q.4)) ∙ ap (slot_for (reversed n z)) e
 
 -- one more rank's slot
-pub lays_none : (n : ℕ) (was : List Slot) (f : ℕ) (what : ℕ → Slot) → Lays n was was f 0 what
-lays_none n was f what = record { long = refl; held = λ z lt a b. absurd (omega arith); others = λ z lt out. refl }
-
 pub lays_more : (n : ℕ) (was new : List Slot) (f k r : ℕ) (what : ℕ → Slot) (x : Slot) → length was ≡ 2 ^ n → Lays n was new f k what → f + k < 2 ^ n
     → r ≡ reversed n (f + k) → x ≡ what (f + k) → Lays n was (set new r x) f (k + 1) what
 lays_more n was new f k r what x len h lt e is =
@@ -133,28 +161,3 @@ module _ (s : Session) where
       ∙ pushed test (weight_at (grant_of s) s.size f) (weight_at (grant_of s) s.size (f + s.size - 1))
       ∙ ap of_weight (sym (weights (grant_of s) s.size f some at (r - f) (omega arith)))
       ∙ ap (λ x. slot_for x (Some s)) z
-
--- the weight of a rank, where so many slots carry the session's weight
-weight_in_lem : (s : Session) (r : ℕ) → carried (Some s) ≡ true → weight_in (grant_of s) s.size r ≡ Some (weight_at (grant_of s) s.size r)
-weight_in_lem s r h =
-    let p = and_parts (leb 1 s.size) (leb s.weight (most_weight * s.size)) h in
-    let a = leb-true 1 s.size p.0 in
-    let b = leb-true s.weight (most_weight * s.size) p.1 in
-    let g : ℕ = grant_of s in
-    cond-true (leb 1 s.size && (leb s.size g && leb g (most_weight * s.size))) (Some (weight_at g s.size r)) None
-    (and_from (leb 1 s.size) (leb s.size g && leb g (most_weight * s.size)) p.0
-    (and_from (leb s.size g) (leb g (most_weight * s.size)) (le-leb s.size g (omega arith)) (le-leb g (most_weight * s.size) (omega (arith, a, b)))))
-
--- what the code puts together
-pub slot_made : (r g w : ℕ) (s : Session) → carried (Some s) ≡ true → g ≡ grant_of s → Some w ≡ weight_in g s.size r
-    → ◌≡◌ {A = Slot} (record { lane = s.lane; weight = w }) (slot_for r (Some s))
-slot_made r g w s h same found =
-    let e : Some w ≡ Some (weight_at (grant_of s) s.size r) = found ∙ ap (λ y. weight_in y s.size r) same ∙ weight_in_lem s r h in
-    let z : w ≡ weight_at (grant_of s) s.size r = cc in
-    ap (λ y. record { lane = s.lane; weight = y }) z
-
-pub slot_unmade : {A : Type 0} (r g : ℕ) (s : Session) → carried (Some s) ≡ true → g ≡ grant_of s → None ≡ weight_in g s.size r → A
-slot_unmade r g s h same found =
-    let e : None ≡ Some (weight_at (grant_of s) s.size r) = found ∙ ap (λ y. weight_in y s.size r) same ∙ weight_in_lem s r h in
-    let z : ◌≡◌ {A = ℕ} 0 1 = cc in
-    absurd (omega arith)

@@ -20,7 +20,7 @@ use Rattle.book.specs.Books.{empty_ranks, free_ranks, lowest_first, place_for, f
 use Rattle.book.specs.Tests.{fits_in}
 use Rattle.book.specs.Sound.{FreeRank, Set, FreeSet, Sound, Ordered, Distinct}
 use Rattle.book.specs.Levels.{Free, FreeIn, up, dbl}
-use Rattle.book.specs.Standing.{Fits, Standing}
+use Rattle.book.specs.Standing.{Fits, Seated, Standing}
 use Rattle.book.specs.Sessions.{sessions_of, without, SameSessions}
 use Rattle.book.specs.Laws.{InBook, Taken, FillLaw, Ended}
 use Rattle.book.proofs.Views.{total}
@@ -94,13 +94,19 @@ set_cases xs f g x s e =
       | inr z ↦ inr (z, sym (get_or-set_other xs f g x None z) ∙ e)
     ]
 
+pub put_seated : (n : ℕ) (xs : Ranks) (s : Session) (f : ℕ) → Place n xs s f → Seated n xs → Seated n (set xs f (Some s))
+put_seated n xs s f p h = record {
+  long = length-set xs f (Some s) ∙ h.long;
+  sound = subst (λ y. Sound n (size_at (set xs y (Some s)))) (sym (p.first ∙ firsts p.level p.index))
+      (filled_sound n p.level p.index xs s (omega (arith, h.long)) p.low p.size_is h.sound p.free p.least);
+}
+
 module _ (n : ℕ) (xs : Ranks) (s : Session) (f : ℕ) (p : Place n xs s f) (h : Standing n xs) where
   at : f ≡ dbl p.level p.index
   at = p.first ∙ firsts p.level p.index
 
   set_sound : Sound n (size_at (set xs f (Some s)))
-  set_sound = subst (λ y. Sound n (size_at (set xs y (Some s)))) (sym at)
-      (filled_sound n p.level p.index xs s (omega (arith, h.long)) p.low p.size_is h.sound p.free p.least)
+  set_sound = (put_seated n xs s f p (record { long = h.long; sound = h.sound })).sound
 
   set_ordered : Ordered n (size_at (set xs f (Some s)))
   set_ordered = subst (λ y. Ordered n (size_at (set xs y (Some s)))) (sym at)

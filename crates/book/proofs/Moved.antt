@@ -2,10 +2,11 @@
 use Rattle.std.proofs.Common.{◌≡◌, ℕ, zero, suc, ◌+◌, ◌-◌, ◌*◌, ◌/◌, ◌%◌, ◌^◌, ◌<◌, ◌≤◌, cond, eqb, ltb, length, set, Some, None, sym, refl, ap, ◌∙◌, subst, inl, inr, arith, length-set}
 use Rattle.std.specs.List.Sorted.{IsPermutation}
 use Rattle.std.proofs.lemmas.List.Sorted.{IsPermutation-refl, IsPermutation-trans, length_permutation}
-use Rattle.std.proofs.lemmas.Bool.{cases_eq, cond_both, cond-true, cond-false, ltb-true, ltb-false, lt-ltb, le-ltb}
+use Rattle.std.proofs.lemmas.Bool.{cases_eq, cond_both, ltb-true, ltb-false}
 use Rattle.std.proofs.lemmas.Bool.Decides.{nat_tests}
 use Rattle.book.specs.Levels.{up, dbl, Free, Whole, Differ, Others, GrowFrom, FreeIn}
 use Rattle.book.specs.Sound.{Sound, Ordered}
+use Rattle.book.specs.Standing.{Seated, Standing}
 use Rattle.book.proofs.Views.{Swapped}
 use Rattle.book.specs.Entries.{size_at, Ranks}
 use Rattle.book.specs.Moves.{brother, whole_around, other_whole, exchanged, exchanged_sets, joining, joined, loose_rank, ordered_at, ordering, ordered, released_set}
@@ -14,7 +15,7 @@ use Rattle.book.proofs.Found.{when_some_by}
 use Rattle.book.proofs.Places.{within, dbl_pos, table, grow_ordered}
 use Rattle.book.proofs.Freeing.{others_differ, order_top, order_end}
 use Rattle.book.proofs.Steps.{in_table, sets_apart, rank_in, dbl_grows, session_at, gone_sound, gone_free, gone_others, join_low, join_in, join_apart, joined_sound, joined_free, joined_again, ordered_sound, ordered_differ, ordered_from, skip_none, skip_loose, skip_left}
-use Rattle.book.proofs.Decided.{firsts, sizes, inside, around, exchanged_swapped, exchanged_shuffled, climb_whole, other_whole_cases, loose_rank_cases, other_found}
+use Rattle.book.proofs.Decided.{firsts, sizes, around, exchanged_swapped, exchanged_shuffled, climb_whole, other_whole_cases, loose_rank_cases, other_found}
 
 pub brother_near : (o : ℕ) → brother o / 2 ≡ o / 2
 brother_near o = cond_both (eqb (o % 2) 0) (o + 1) (o - 1) (λ x. x / 2 ≡ o / 2) (λ e. grind (arith, nat_tests)) (λ e. grind (arith, nat_tests))
@@ -101,9 +102,13 @@ joining_keeps n xs i p (suc k) len e sound start others =
     (r.0, r.1, IsPermutation-trans xs ys (joining n ys w.0 w.1 k) m.kept r.2))
 
 -- The state of a loop that joins: what is left to do, in k steps at most, ends at zs.
-abbrev pub Joining : ℕ → Ranks → Ranks → ℕ × ℕ → Type 0
-Joining n zs xs w = Sound n (size_at xs) × Whole (FreeIn n xs) w.0 w.1 × Others (FreeIn n xs) w.0 w.1
+abbrev pub Joins : ℕ → Ranks → Ranks → ℕ × ℕ → Type 0
+Joins n zs xs w = Whole (FreeIn n xs) w.0 w.1 × Others (FreeIn n xs) w.0 w.1
     × ((k : ℕ) × (n ≤ k + w.0) × (zs ≡ joining n xs w.0 w.1 k))
+
+-- and the sessions hold disjoint sets
+abbrev pub Joining : ℕ → Ranks → Ranks → ℕ × ℕ → Type 0
+Joining n zs xs w = Sound n (size_at xs) × Joins n zs xs w
 
 -- its step, as the code takes it
 module _ (n : ℕ) (zs xs : Ranks) (i p o : ℕ) (len : 2 ^ n ≤ length xs) (h : Joining n zs xs (i, p)) (found : Some o ≡ other_whole n xs i p) where
@@ -117,7 +122,7 @@ module _ (n : ℕ) (zs xs : Ranks) (i p o : ℕ) (len : 2 ^ n ≤ length xs) (h 
   one = omega arith
 
   pub joining_step : Stepped n xs i p o (exchanged_sets xs i p (brother o)) (whole_around n (exchanged_sets xs i p (brother o)) (suc i) (o / 2))
-  joining_step = let t = other_found n xs i p o found in join_step n xs i p o len h.0 h.1 h.2 t.0 t.1
+  joining_step = let t = other_found n xs i p o found in join_step n xs i p o len h.0 h.1.0 h.1.1 t.0 t.1
 
   left : (k : ℕ) → n ≤ k + i → zs ≡ joining n xs i p k → (k : ℕ) × (n ≤ k + W.0) × (zs ≡ joining n Y W.0 W.1 k)
   left zero l e = absurd (omega (arith, joining_step.low))
@@ -128,13 +133,7 @@ module _ (n : ℕ) (zs xs : Ranks) (i p o : ℕ) (len : 2 ^ n ≤ length xs) (h 
         (whole_around n (exchanged_sets xs i p (brother o)) (suc i) (o / 2)).0 (whole_around n (exchanged_sets xs i p (brother o)) (suc i) (o / 2)).1 k)) (sym found),
   )
 
-  pub joining_in : (q : ℕ) → q ≡ brother o → q * 2 ^ i + 2 ^ i ≤ 2 ^ n
-  joining_in q bro = inside n i q (subst (λ x. dbl i x + dbl i 1 ≤ 2 ^ n) (sym bro) joining_step.inside)
-
   module _ (q : ℕ) (ys : Ranks) (bro : q ≡ brother o) (moved : ys ≡ exchanged_sets xs i p q) where
-    pub joining_free : Free (FreeIn n ys) (i + 1) (o / 2)
-    joining_free = subst (λ y. Free (FreeIn n y) (i + 1) (o / 2)) (sym (moved ∙ ap (exchanged_sets xs i p) bro)) (subst (λ x. Free (FreeIn n Y) x (o / 2)) one joining_step.free)
-
     module _ (w : ℕ × ℕ) (climbed : w ≡ whole_around n ys (i + 1) (o / 2)) where
       climbed_from : w ≡ W
       climbed_from = climbed ∙ ap (λ y. whole_around n y (i + 1) (o / 2)) (moved ∙ ap (exchanged_sets xs i p) bro) ∙ ap (λ x. whole_around n Y x (o / 2)) (sym one)
@@ -146,39 +145,26 @@ module _ (n : ℕ) (zs xs : Ranks) (i p o : ℕ) (len : 2 ^ n ≤ length xs) (h 
       joining_again =
           subst (Joining n zs ys) (sym climbed_from)
           (subst (λ y. Joining n zs y W) (sym (moved ∙ ap (exchanged_sets xs i p) bro))
-          (joining_step.sound, joining_step.whole, joining_step.others, left h.3.0 h.3.1 h.3.2))
+          (joining_step.sound, (joining_step.whole, joining_step.others, left h.1.2.0 h.1.2.1 h.1.2.2)))
 
 pub joining_done : (n : ℕ) (zs xs : Ranks) (i p : ℕ) → Joining n zs xs (i, p) → None ≡ other_whole n xs i p → xs ≡ zs
-joining_done n zs xs i p h none = left h.3.0 h.3.2
+joining_done n zs xs i p h none = left h.1.2.0 h.1.2.2
   where
     left : (k : ℕ) → zs ≡ joining n xs i p k → xs ≡ zs
     left zero e = sym e
     left (suc k) e = sym (e ∙ ap (λ r. when_some r xs (λ o. joining n (exchanged_sets xs i p (brother o))
         (whole_around n (exchanged_sets xs i p (brother o)) (suc i) (o / 2)).0 (whole_around n (exchanged_sets xs i p (brother o)) (suc i) (o / 2)).1 k)) (sym none))
 
--- what ordering at a level does, by what its searches find
-module _ (n : ℕ) (xs : Ranks) (i : ℕ) where
-  abbrev moved_past : ℕ → ℕ → Ranks
-  moved_past p r = cond (ltb p (r / 2 ^ i)) (exchanged_sets xs i p (r / 2 ^ i)) xs
+-- the same of the book's entries
+module _ (n : ℕ) (zs xs : Ranks) (i p o : ℕ) (seated : Seated n xs) (joins : Joins n zs xs (i, p)) (found : other_whole n xs i p ≡ Some o) where
+  pub turn : Stepped n xs i p o (exchanged_sets xs i p (brother o)) (whole_around n (exchanged_sets xs i p (brother o)) (suc i) (o / 2))
+  turn = joining_step n zs xs i p o (omega (arith, seated.long)) (seated.sound, joins) (sym found)
 
-  pub order_none : None ≡ other_whole n xs i (2 ^ n) → xs ≡ ordered_at n xs i
-  order_none e = ap (λ o. when_some o xs (λ p. when_some (loose_rank n xs i) xs (moved_past p))) e
-
-  module _ (p : ℕ) (found : Some p ≡ other_whole n xs i (2 ^ n)) where
-    chosen : when_some (loose_rank n xs i) xs (moved_past p) ≡ ordered_at n xs i
-    chosen = ap (λ o. when_some o xs (λ p. when_some (loose_rank n xs i) xs (moved_past p))) found
-
-    pub order_tight : None ≡ loose_rank n xs i → xs ≡ ordered_at n xs i
-    order_tight e = ap (λ o. when_some o xs (moved_past p)) e ∙ chosen
-
-    module _ (r q : ℕ) (loose : Some r ≡ loose_rank n xs i) (e : q ≡ r / 2 ^ i) where
-      pub order_right : p < q → exchanged_sets xs i p q ≡ ordered_at n xs i
-      order_right l =
-          sym (cond-true (ltb p q) (exchanged_sets xs i p q) xs (lt-ltb p q l)) ∙ ap (λ x. cond (ltb p x) (exchanged_sets xs i p x) xs) e ∙ ap (λ o. when_some o xs (moved_past p)) loose ∙ chosen
-
-      pub order_left : q ≤ p → xs ≡ ordered_at n xs i
-      order_left l =
-          sym (cond-false (ltb p q) (exchanged_sets xs i p q) xs (le-ltb p q l)) ∙ ap (λ x. cond (ltb p x) (exchanged_sets xs i p x) xs) e ∙ ap (λ o. when_some o xs (moved_past p)) loose ∙ chosen
+  pub turned : (q : ℕ) (ys : Ranks) (w : ℕ × ℕ) → q ≡ brother o → ys ≡ exchanged_sets xs i p q → w ≡ whole_around n ys (i + 1) (o / 2) → (i < w.0) × Joins n zs ys w
+  turned q ys w bro moved climbed = (
+    joining_more n zs xs i p o (omega (arith, seated.long)) (seated.sound, joins) (sym found) q ys bro moved w climbed,
+    (joining_again n zs xs i p o (omega (arith, seated.long)) (seated.sound, joins) (sym found) q ys bro moved w climbed).1,
+  )
 
 pub ordered_at_keeps : (n : ℕ) (xs : Ranks) (i : ℕ) → 2 ^ n ≤ length xs → i ≤ n
     → Sound n (size_at xs) → Differ (FreeIn n xs) → GrowFrom (FreeIn n xs) (suc i)
@@ -247,6 +233,24 @@ release_start n xs j f len held sound ord =
       others = subst (Others (FreeIn n ys) w.0) (sym c.2)
           (gone_others n f j a xs len t.0 t.1 t.2 sound ord (w.0 - j) w.0 (omega (arith, c.1)) (subst (Whole (FreeIn n ys) w.0) c.2 c.0));
     })
+
+-- a session's set begins at its rank
+pub set_first : (n : ℕ) (xs : Ranks) (f j : ℕ) → Sound n (size_at xs) → size_at xs f ≡ 2 ^ j → f / 2 ^ j * 2 ^ j ≡ f
+set_first n xs f j sound size = let t = session_at n xs f j sound size in ap (λ x. x * 2 ^ j) (around j f) ∙ firsts j (up j f) ∙ sym t.0
+
+module _ (n : ℕ) (xs : Ranks) (j f : ℕ) (ys : Ranks) (w : ℕ × ℕ) (gone : ys ≡ set xs f None) (climbed : w ≡ whole_around n ys j (f / 2 ^ j)) where
+  climbed_gone : w ≡ whole_around n (set xs f None) j (f / 2 ^ j)
+  climbed_gone = climbed ∙ ap (λ y. whole_around n y j (f / 2 ^ j)) gone
+
+  pub released_from : Standing n xs → size_at xs f ≡ 2 ^ j → Whole (FreeIn n ys) w.0 w.1 × Others (FreeIn n ys) w.0 w.1
+  released_from h size =
+      let t = release_start n xs j f (omega (arith, h.long)) size h.sound h.ordered in
+      subst (λ y. Whole (FreeIn n y) w.0 w.1 × Others (FreeIn n y) w.0 w.1) (sym gone)
+      (subst (λ (x : ℕ × ℕ). Whole (FreeIn n (set xs f None)) x.0 x.1 × Others (FreeIn n (set xs f None)) x.0 x.1) (sym climbed_gone) (t.whole, t.others))
+
+  pub released_to : (zs us : Ranks) → zs ≡ joined n ys w.0 w.1 → us ≡ ordered n zs → us ≡ released_set n xs j f
+  released_to zs us e d =
+      d ∙ ap (ordered n) (e ∙ ap (λ y. joined n y w.0 w.1) gone ∙ ap (λ (x : ℕ × ℕ). joined n (set xs f None) x.0 x.1) climbed_gone)
 
 pub released_set_keeps : (n : ℕ) (xs : Ranks) (j f : ℕ) → 2 ^ n ≤ length xs → size_at xs f ≡ 2 ^ j → Sound n (size_at xs) → Ordered n (size_at xs)
     → Sound n (size_at (released_set n xs j f)) × Ordered n (size_at (released_set n xs j f)) × IsPermutation (set xs f None) (released_set n xs j f)

@@ -31,9 +31,6 @@ module _ (free : FreeSets) (n m : ℕ) where
       ap (λ o. when_some o None (λ q. Some (q * 2 ^ i))) b
       ∙ ap (λ o. when_some o None (λ i. when_some (lowest_by n free i) None (λ q. Some (q * 2 ^ i)))) a
 
-  pub first_unset : None ≡ level_for n m → None ≡ lowest_first_by n free m
-  first_unset a = ap (λ o. when_some o None (λ i. when_some (lowest_by n free i) None (λ q. Some (q * 2 ^ i)))) a
-
 -- the tests before it
 module _ (n : ℕ) (xs : Ranks) (s : Session) where
   pub place_unfit : fits n s ≡ false → None ≡ place_for n xs s

@@ -1,5 +1,5 @@
 -- The sessions of a book stand evenly in its slots.
-use Rattle.std.proofs.Common.{◌≡◌, ℕ, zero, suc, ◌+◌, ◌-◌, ◌*◌, ◌/◌, ◌%◌, ◌^◌, ◌<◌, ◌≤◌, Bool, true, false, cond, ◌&&◌, eqb, ltb, leb, ◌⊎◌, ◌↔◌, List, [], ◌∷◌, length, get_or, Some, None, sum_by, Option, sym, refl, ap, ◌∙◌, subst, inl, inr, div-lt_iff_lt-mul, div-add-mod', arith, pow_pos, pow-add}
+use Rattle.std.proofs.Common.{◌≡◌, ℕ, zero, suc, ◌+◌, ◌-◌, ◌*◌, ◌/◌, ◌%◌, ◌^◌, ◌<◌, ◌≤◌, Bool, true, cond, ◌&&◌, eqb, ltb, leb, ◌⊎◌, ◌↔◌, List, [], ◌∷◌, length, get_or, Some, None, sum_by, Option, sym, refl, ap, ◌∙◌, subst, inl, inr, div-lt_iff_lt-mul, div-add-mod', arith, pow_pos, pow-add}
 use native.Mathlib.Nat.{mul-div_left}
 use Rattle.std.proofs.lemmas.List.Sums.{get_or-le-sum_by}
 use Rattle.std.proofs.lemmas.List.{get_or-map, length-map, get_or_past}
@@ -21,6 +21,7 @@ use Rattle.book.specs.Even.{Has}
 use Rattle.book.specs.Laws.{no_session, sum_below, Placed, PlacedLaw}
 use Rattle.book.proofs.Reversed.{sum_same, sum_reversed, sum_set}
 use Rattle.book.proofs.Sums.{opt, called, sum_sessions, once_count, sum_one, sum_part}
+use Rattle.book.proofs.Holders.{holder_found, holder_is}
 use Rattle.book.proofs.Tested.{tested}
 
 -- whether two sessions are the same in all
@@ -57,36 +58,6 @@ is_one a = cond-true {A = ℕ} (same? a a) 1 0 (same_refl a)
 some_held : (g : Session → ℕ) (x : Option Session) → 1 ≤ opt g x → (s : Session) × (x ≡ Some s) × (1 ≤ g s)
 some_held g None l = absurd (omega arith)
 some_held g (Some s) l = (s, refl, l)
-
--- who holds a rank
-holder_hit : (xs : Ranks) (k r i : ℕ) → i < length xs → k + i ≤ r → r < k + i + size_at xs i
-    → ((j : ℕ) → j < i → k + j ≤ r → r < k + j + size_at xs j → ⊥) → holder_from k xs r ≡ get_or xs i None
-holder_hit [] k r i l a c none = absurd (omega arith)
-holder_hit (x ∷ xs) k r zero l a c none =
-    cond-true (leb k r && ltb r (k + size_of x)) x (holder_from (suc k) xs r) (and_from (leb k r) (ltb r (k + size_of x)) (le-leb k r (omega arith)) (lt-ltb r (k + size_of x) (omega arith)))
-holder_hit (x ∷ xs) k r (suc i) l a c none =
-    go (cases_Bool (leb k r && ltb r (k + size_of x))) (holder_hit xs (suc k) r i (omega arith) (omega arith) (omega arith) (λ j m p q. none (suc j) (omega arith) (omega arith) (omega arith)))
-  where
-    go : ((leb k r && ltb r (k + size_of x)) ≡ true) ⊎ ((leb k r && ltb r (k + size_of x)) ≡ false) → holder_from (suc k) xs r ≡ get_or xs i None → holder_from k (x ∷ xs) r ≡ get_or xs i None
-    go (inl t) ih =
-        let p = and_parts (leb k r) (ltb r (k + size_of x)) t in
-        absurd (none 0 (omega arith) (omega (arith, leb-true k r p.0)) (omega (arith, ltb-true r (k + size_of x) p.1)))
-    go (inr t) ih = cond-false (leb k r && ltb r (k + size_of x)) x (holder_from (suc k) xs r) t ∙ ih
-
-holder_found : (xs : Ranks) (k r : ℕ) (s : Session) → holder_from k xs r ≡ Some s → (i : ℕ) × (i < length xs) × (get_or xs i None ≡ Some s) × (k + i ≤ r) × (r < k + i + s.size)
-holder_found [] k r s e = let z : ◌≡◌ {A = ℕ} 0 1 = cc in absurd (omega arith)
-holder_found (x ∷ xs) k r s e = go (cases_Bool (leb k r && ltb r (k + size_of x))) (holder_found xs (suc k) r s)
-  where
-    go : ((leb k r && ltb r (k + size_of x)) ≡ true) ⊎ ((leb k r && ltb r (k + size_of x)) ≡ false)
-        → (holder_from (suc k) xs r ≡ Some s → (i : ℕ) × (i < length xs) × (get_or xs i None ≡ Some s) × (suc k + i ≤ r) × (r < suc k + i + s.size))
-        → (i : ℕ) × (i < suc (length xs)) × (get_or (x ∷ xs) i None ≡ Some s) × (k + i ≤ r) × (r < k + i + s.size)
-    go (inl t) ih =
-        let p = and_parts (leb k r) (ltb r (k + size_of x)) t in
-        let is_x : x ≡ Some s = sym (cond-true (leb k r && ltb r (k + size_of x)) x (holder_from (suc k) xs r) t) ∙ e in
-        (0, omega arith, is_x, omega (arith, leb-true k r p.0), omega (arith, ltb-true r (k + size_of x) p.1, ap size_of is_x))
-    go (inr t) ih =
-        let q = ih (sym (cond-false (leb k r && ltb r (k + size_of x)) x (holder_from (suc k) xs r) t) ∙ e) in
-        (suc q.0, omega (arith, q.1), q.2, omega (arith, q.3), omega (arith, q.4))
 
 -- a list of what there is for each number below k
 choose : (P : ℕ → ℕ → Type 0) (k : ℕ) → ((i : ℕ) → i < k → (o : ℕ) × P i o) → (os : List ℕ) × (length os ≡ k) × ((i : ℕ) → i < k → P i (get_or os i 0))
@@ -173,10 +144,8 @@ module _ (n : ℕ) (xs : Ranks) (h : Standing n xs) where
       t : spacing_of n s ≡ 2 ^ (n - j)
       t = ap (λ y. 2 ^ n / y) k.size_is ∙ apart_pow n j k.low
 
-  holder_is : (f r : ℕ) (s : Session) → get_or xs f None ≡ Some s → f ≤ r → r < f + s.size → holder_from 0 xs r ≡ Some s
-  holder_is f r s e a c =
-      holder_hit xs 0 r f (in_book f s e) (omega arith) (omega (arith, ap size_of e))
-      (λ g m p q. absurd (omega (arith, m, h.sound.apart g f r (omega arith, omega arith) (a, omega (arith, ap size_of e))))) ∙ e
+  holder_at : (f r : ℕ) (s : Session) → get_or xs f None ≡ Some s → f ≤ r → r < f + s.size → holder_from 0 xs r ≡ Some s
+  holder_at f r s e = holder_is n xs h.sound f r s (in_book f s e) e
 
   slot_is : (z : ℕ) → z < 2 ^ n → get_or (contents n xs) z empty_slot ≡ slot_in n xs z
   unfolding contents
@@ -276,7 +245,7 @@ module _ (n : ℕ) (xs : Ranks) (h : Standing n xs) where
     here : (i z : ℕ) → i < length live → z < 2 ^ n → Has (spacings n live) picks.0 i z → get_or (contents n xs) z empty_slot ≡ slot_for (reversed n z) (Some (at i))
     here i z l low e =
         let u = covers i z l low e in
-        slot_is z low ∙ ap (slot_for (reversed n z)) (holder_is (sp i l).f (reversed n z) (at i) (sp i l).stands u.0 u.1)
+        slot_is z low ∙ ap (slot_for (reversed n z)) (holder_at (sp i l).f (reversed n z) (at i) (sp i l).stands u.0 u.1)
 
     nobody : (z : ℕ) → z < 2 ^ n → ((i : ℕ) → i < length live → Has (spacings n live) picks.0 i z → ⊥) → (x : Option Session) → x ≡ holder_from 0 xs (reversed n z) → slot_in n xs z ≡ empty_slot
     nobody z low none None e = ap (slot_for (reversed n z)) (sym e)

@@ -1,5 +1,5 @@
 -- The book of a port: what its calls answer, and what it is after them. Who uses books imports from here.
-use Rattle.std.specs.Prelude.{ℕ, ◌+◌, ◌*◌, ◌^◌, Bool, cond, not, ◌&&◌, set, replicate, Some, None, Option, slice_index_or, slice_set}
+use Rattle.std.specs.Prelude.{ℕ, ◌*◌, ◌^◌, cond, not, ◌&&◌, replicate, Some, None, Option, slice_index_or, slice_set}
 use Rattle.book.specs.declared.session.Session.{Session}
 use Rattle.book.specs.Searches.{count, when_some}
 use Rattle.book.specs.Entries.{size_of, level_for, place_of}

@@ -1,6 +1,6 @@
 -- What is searched for among the sets of a table, by any test of which of them are free. Each stands beside the definition that a book's own
 -- entries give (`Sets`, `Moves`, `Books`), and is that where the test is the entries' (`is_free`).
-use Rattle.std.specs.Prelude.{ℕ, zero, suc, ◌+◌, ◌-◌, ◌*◌, ◌/◌, ◌^◌, Bool, cond, not, ◌&&◌, None, Some, Option, ◌==◌}
+use Rattle.std.specs.Prelude.{ℕ, zero, suc, ◌-◌, ◌*◌, ◌/◌, ◌^◌, Bool, cond, not, ◌&&◌, None, Some, Option, ◌==◌}
 use Rattle.book.specs.Searches.{first_from, last_below, when_some}
 use Rattle.book.specs.Entries.{level_for}
 

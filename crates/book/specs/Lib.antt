@@ -13,3 +13,4 @@ pub mod Sessions
 pub mod Even
 pub mod Laws
 pub mod Levels
+pub mod RankSets

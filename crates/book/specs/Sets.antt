@@ -1,6 +1,5 @@
 -- Sets of ranks: the set q of level i is the 2 ^ i ranks from q * 2 ^ i on, and the rank r is in the set r / 2 ^ i of level i.
-use Rattle.std.specs.Prelude.{ℕ, suc, ◌+◌, ◌*◌, ◌/◌, ◌^◌, Bool, true, not, ◌&&◌, List, [], ◌∷◌, Option, nat_le, nat_lt}
-use Rattle.book.specs.declared.session.Session.{Session}
+use Rattle.std.specs.Prelude.{ℕ, suc, ◌+◌, ◌*◌, ◌/◌, ◌^◌, Bool, true, not, ◌&&◌, [], ◌∷◌, Option, nat_le, nat_lt}
 use Rattle.book.specs.Searches.{first_from}
 use Rattle.book.specs.Entries.{Ranks, size_of}
 

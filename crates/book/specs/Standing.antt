@@ -14,6 +14,11 @@ pub record Fits (n : ℕ) (s : Session) : Type 0 where
   pub most : s.weight ≤ most_weight * s.size
   pub lane : s.lane < lane_count
 
+-- A table of 2 ^ n ranks, whose sessions hold disjoint sets, in whatever order.
+pub record Seated (n : ℕ) (xs : Ranks) : Type 0 where
+  pub long : length xs ≡ 2 ^ n
+  pub sound : Sound n (size_at xs)
+
 -- A book of 2 ^ n ranks: its sessions hold disjoint sets, no number stands twice, the whole free sets differ in size, and those sizes grow from
 -- left to right.
 pub record Standing (n : ℕ) (xs : Ranks) : Type 0 where

@@ -3,7 +3,9 @@
 
 pub mod book;
 pub mod books;
+mod entries;
 mod moves;
+mod rank_set;
 mod ranks;
 pub mod session;
 pub mod slots;

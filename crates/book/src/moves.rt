@@ -1,150 +1,94 @@
-// How a release moves sessions: exchange of sets, joining and ordering. In between, a book's entries are a plain slice.
-ghost use Rattle.std.specs.Prelude.{◌≡◌, ℕ, ◌+◌, ◌*◌, ◌^◌, ◌<◌, ◌≤◌, ◌⊎◌, length, ◌≢◌};
-ghost use Rattle.book.specs.Entries.{size_at};
-ghost use Rattle.book.specs.Moves.{brother, exchanged, exchanged_sets, joined, ordered_at, ordered, released_set};
-ghost use Rattle.book.specs.Sound.{Sound, Ordered};
-ghost use Rattle.book.specs.Levels.{FreeIn, Free, Whole, Others, Beside};
-ghost use Rattle.book.specs.Bits.{held_bits};
+// How a release moves sessions: joining and ordering.
+ghost use Rattle.std.specs.Prelude.{◌≡◌, ◌*◌, ◌^◌, ◌<◌, ◌≤◌, length};
+ghost use Rattle.table.specs.Slots.{bits, slots};
+ghost use Rattle.book.specs.Entries.{size_at, holds};
+ghost use Rattle.book.specs.Moves.{joined, ordered_at, ordered, released_set};
+ghost use Rattle.book.specs.Standing.{Standing};
+ghost use Rattle.book.specs.Levels.{FreeIn, Whole, Others};
+ghost use Rattle.book.specs.Books.{released_at, released};
 
-use crate::ranks::{
-    first_of, index_of, loose_rank, other_whole, part_of, ranks_from, size_of, whole_around,
-};
-use crate::session::Session;
+use crate::entries::Entries;
+use crate::rank_set::RankSet;
+use table::rank::{BITS, SLOTS};
 
-// Exchanges the ranks from `f` on with those from `g` on, `size` of them.
-fn exchange(book: &mut [Option<Session>], f: usize, g: usize, size: usize)
-    requires left_in { f + size ≤ length book.old }
-    requires right_in { g + size ≤ length book.old }
-    requires apart { (f + size ≤ g) ⊎ (g + size ≤ f) }
-    ensures { book.new ≡ exchanged book.old f g size }
-{
-    for k in 0..size {
-        book.swap(f + k, g + k);
-    }
-}
-
-// Exchanges a free set with another one of its level, which has a free rank beside it. `held` are the ranks that are held; answers those that are then.
-fn exchange_sets(
-    book: &mut [Option<Session>],
-    held: u64,
-    levels: u32,
-    level: u32,
-    p: usize,
-    q: usize,
-) -> u64
-    requires table { (2 ^ levels ≤ length book.old) × (length book.old ≤ 64) }
-    requires top { levels ≤ 6 }
-    requires bits { held ≡ held_bits levels book.old }
-    requires sound { Sound levels (size_at book.old) }
-    requires free { Free (FreeIn levels book.old) level p }
-    requires within { q * 2 ^ level + 2 ^ level ≤ 2 ^ levels }
-    requires beside { Beside levels book.old level q }
-    requires apart { p ≢ q }
-    ensures after { book.new ≡ exchanged_sets book.old level p q }
-    ensures sound { Sound levels (size_at book.new) }
-    ensures bits { result ≡ held_bits levels book.new }
-{
-    let f = first_of(level, p);
-    let g = first_of(level, q);
-    let size = size_of(level);
-    let moved = part_of(held, g, size);
-    exchange(book, f, g, size);
-    held - (moved << g) + (moved << f)
-}
-
-// The set that together with this one is a set of double size.
-fn brother_of(index: usize) -> usize
-    requires { index < 64 }
-    ensures { result ≡ brother index }
-{
-    if index % 2 == 0 { index + 1 } else { index - 1 }
-}
-
-// Joins whole free sets of one size, from a start set on, until all differ in size.
-fn join(book: &mut [Option<Session>], held: u64, levels: u32, level: u32, index: usize) -> u64
-    requires table { (2 ^ levels ≤ length book.old) × (length book.old ≤ 64) }
-    requires top { levels ≤ 6 }
-    requires bits { held ≡ held_bits levels book.old }
-    requires sound { Sound levels (size_at book.old) }
-    requires whole { Whole (FreeIn levels book.old) level index }
-    requires others { Others (FreeIn levels book.old) level index }
-    ensures after { book.new ≡ joined levels book.old level index }
-    ensures sound { Sound levels (size_at book.new) }
-    ensures bits { result ≡ held_bits levels book.new }
-{
-    let mut taken = held;
-    let mut l = level;
-    let mut p = index;
-    while let Some(o) = other_whole(taken, levels, l, p) {
-        let q = brother_of(o);
-        taken = exchange_sets(book, taken, levels, l, p, q);
-        let start = whole_around(taken, levels, l + 1, o / 2);
-        l = start.0;
-        p = start.1;
-    }
-    taken
-}
-
-// Moves the whole free set of this level to the right of the smaller ones.
-fn order_level(book: &mut [Option<Session>], held: u64, levels: u32, level: u32) -> u64
-    requires table { (2 ^ levels ≤ length book.old) × (length book.old ≤ 64) }
-    requires top { levels ≤ 6 }
-    requires low { level ≤ levels }
-    requires bits { held ≡ held_bits levels book.old }
-    requires sound { Sound levels (size_at book.old) }
-    ensures after { book.new ≡ ordered_at levels book.old level }
-    ensures sound { Sound levels (size_at book.new) }
-    ensures bits { result ≡ held_bits levels book.new }
-{
-    let len = size_of(levels);
-    if let Some(p) = other_whole(held, levels, level, len) {
-        if let Some(rank) = loose_rank(held, levels, level) {
-            let q = index_of(rank, level);
-            let is_left = p < q;
-            if is_left {
-                return exchange_sets(book, held, levels, level, p, q);
-            }
+impl Entries {
+    // Joins whole free sets of one size, from a start set on, until all differ in size.
+    fn join(&mut self, start: RankSet)
+        requires whole { Whole (FreeIn bits self.old) start.level start.index }
+        requires others { Others (FreeIn bits self.old) start.level start.index }
+        ensures { self.new ≡ joined bits self.old start.level start.index }
+    {
+        let mut whole = start;
+        while let Some(other) = self.other_whole(whole.level, whole.index) {
+            self.exchange_sets(whole, other.brother());
+            let around = other.doubled();
+            whole = self.whole_around(around);
         }
     }
-    held
-}
 
-// Brings whole free sets that differ in size into the order of their sizes, the largest first.
-fn order(book: &mut [Option<Session>], held: u64, levels: u32) -> u64
-    requires table { (2 ^ levels ≤ length book.old) × (length book.old ≤ 64) }
-    requires top { levels ≤ 6 }
-    requires bits { held ≡ held_bits levels book.old }
-    requires sound { Sound levels (size_at book.old) }
-    ensures after { book.new ≡ ordered levels book.old }
-    ensures bits { result ≡ held_bits levels book.new }
-{
-    let mut taken = held;
-    for level in (0..levels + 1).rev() {
-        taken = order_level(book, taken, levels, level);
+    // Moves the whole free set of this level to the right of the smaller ones.
+    fn order_level(&mut self, level: u32)
+        requires { level ≤ bits }
+        ensures { self.new ≡ ordered_at bits self.old level }
+    {
+        // Another set than none: `ordered_at` names this index.
+        let Some(whole) = self.other_whole(level, SLOTS) else {
+            return;
+        };
+        let Some(rank) = self.loose_rank(level) else {
+            return;
+        };
+        let loose = RankSet::around(rank, level);
+        let is_left = whole.index < loose.index;
+        if is_left {
+            self.exchange_sets(whole, loose);
+        }
     }
-    taken
-}
 
-// Ends the session at a rank, whose set is of this level, and brings the free sets in order again.
-pub(crate) fn release_set(
-    book: &mut [Option<Session>],
-    held: u64,
-    levels: u32,
-    level: u32,
-    at: usize,
-) -> u64
-    requires table { (2 ^ levels ≤ length book.old) × (length book.old ≤ 64) }
-    requires top { levels ≤ 6 }
-    requires bits { held ≡ held_bits levels book.old }
-    requires size { size_at book.old at ≡ 2 ^ level }
-    requires sound { Sound levels (size_at book.old) }
-    requires ordered { Ordered levels (size_at book.old) }
-    ensures after { book.new ≡ released_set levels book.old level at }
-    ensures bits { result ≡ held_bits levels book.new }
-{
-    book[at] = None;
-    let freed = held - ranks_from(at, size_of(level));
-    let start = whole_around(freed, levels, level, index_of(at, level));
-    let joined = join(book, freed, levels, start.0, start.1);
-    order(book, joined, levels)
+    // Brings whole free sets that differ in size into the order of their sizes, the largest first.
+    fn order(&mut self)
+        ensures { self.new ≡ ordered bits self.old }
+    {
+        for level in (0..BITS + 1).rev() {
+            self.order_level(level);
+        }
+    }
+
+    // Ends the session at a rank, whose set is of this level, and brings the free sets in order again.
+    // What the entries keep between calls is asked here and is no invariant of theirs, since joining and ordering break it on the way.
+    fn release_set(&mut self, level: u32, at: usize)
+        requires stands { Standing bits self.old }
+        requires size { size_at self.old at ≡ 2 ^ level }
+        ensures { self.new ≡ released_set bits self.old level at }
+    {
+        let set = RankSet::around(at, level);
+        self.remove(set);
+        let start = self.whole_around(set);
+        self.join(start);
+        self.order();
+    }
+
+    // The same of a session of any level; where none begins at the rank, nothing is done.
+    fn release_at(&mut self, at: usize)
+        requires stands { Standing bits self.old }
+        requires there { at < slots }
+        ensures { self.new ≡ released_at bits self.old at }
+    {
+        if let Some(level) = self.level_at(at) {
+            self.release_set(level, at);
+        }
+    }
+
+    // Ends the session of this number, and brings the free sets in order again. Answers whether there was one.
+    pub(crate) fn release(&mut self, number: u16) -> bool
+        requires { Standing bits self.old }
+        ensures value { result ≡ holds number self.old }
+        ensures after { self.new ≡ released bits self.old number }
+    {
+        let Some(at) = self.find(number) else {
+            return false;
+        };
+        self.release_at(at);
+        true
+    }
 }

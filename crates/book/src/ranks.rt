@@ -1,174 +1,90 @@
-// Free sets among the ranks of a table. The ranks that sessions hold are the bits of one number; the set of a level and an index is the 2^level ranks
-// from index * 2^level on.
-ghost use Rattle.std.specs.Prelude.{◌≡◌, ℕ, ◌+◌, ◌-◌, ◌*◌, ◌/◌, ◌^◌, ◌<◌, ◌≤◌, length};
+// Free sets among the ranks of a table.
+ghost use Rattle.std.specs.Prelude.{◌≡◌, ℕ, ◌+◌, ◌*◌, ◌/◌, ◌^◌, ◌<◌, ◌≤◌};
+ghost use Rattle.table.specs.Slots.{bits};
 ghost use Rattle.book.specs.FreeSets.{around_by, loose_by, lowest_by, other_by, whole_by};
 ghost use Rattle.book.specs.Searches.{count};
-ghost use Rattle.book.specs.Entries.{size_at};
 ghost use Rattle.book.specs.Bits.{part, free_bits};
+ghost use Rattle.book.specs.RankSets.{Found};
 
-use crate::session::Session;
-use table::rank::SLOTS;
+use crate::rank_set::RankSet;
+use table::rank::{BITS, SLOTS};
 
-// The size of the session whose set begins at `f`, or 0.
-pub(crate) fn size_at(book: &[Option<Session>], f: usize) -> usize
-    requires { f < length book.now }
-    ensures is { result ≡ size_at book.now f }
-    ensures small { result < 256 }
-{
-    match book[f] {
-        Some(s) => s.size as usize,
-        None => 0,
+// The ranks that sessions hold: bit r is 1 where rank r is held.
+#[derive(Clone, Copy)]
+pub(crate) struct HeldRanks {
+    pub(crate) bits: u64,
+}
+
+impl HeldRanks {
+    // The held ranks of a set, as bits from its first rank on.
+    pub(crate) fn part(self, set: RankSet) -> u64
+        ensures { result ≡ part self.bits (set.index * 2 ^ set.level) (2 ^ set.level) }
+    {
+        // By shifts and not by the set's mask, which took a release with its fill-in from 1.08 s to 1.40 s for two million.
+        let others = SLOTS - set.size();
+        self.bits >> set.first() << others >> others
     }
-}
 
-// The held ranks among those from `first` on, `size` of them.
-pub(crate) fn part_of(held: u64, first: usize, size: usize) -> u64
-    requires some { 0 < size }
-    requires within { first + size ≤ 64 }
-    ensures { result ≡ part held first size }
-{
-    let others = SLOTS - size;
-    held >> first << others >> others
-}
+    // Whether a set is free.
+    pub(crate) fn is_free(self, set: RankSet) -> bool
+        ensures { result ≡ free_bits bits self.bits set.level set.index }
+    {
+        self.part(set) == 0
+    }
 
-// The ranks from `first` on, `size` of them.
-pub(crate) fn ranks_from(first: usize, size: usize) -> u64
-    requires some { 0 < size }
-    requires within { first + size ≤ 64 }
-    ensures { result ≡ (2 ^ size - 1) * 2 ^ first }
-{
-    u64::MAX >> (SLOTS - size) << first
-}
+    // How many ranks are free.
+    pub(crate) fn free_count(self) -> usize
+        ensures { result ≡ count (free_bits bits self.bits 0) (2 ^ bits) }
+    {
+        self.bits.count_zeros() as usize
+    }
 
-// The size of a set of this level.
-pub(crate) fn size_of(level: u32) -> usize
-    requires { level ≤ 6 }
-    ensures { result ≡ 2 ^ level }
-{
-    1 << level
-}
+    // The lowest free set of this level.
+    pub(crate) fn lowest(self, level: u32) -> Option<RankSet>
+        requires { level ≤ bits }
+        ensures { Found level (lowest_by bits (free_bits bits self.bits) level) result }
+    {
+        (0..SLOTS >> level)
+            .map(|index| RankSet::at(level, index))
+            .find(|&set| self.is_free(set))
+    }
 
-// The first rank of a set.
-pub(crate) fn first_of(level: u32, index: usize) -> usize
-    requires low { level ≤ 6 }
-    requires within { index * 2 ^ level ≤ 64 }
-    ensures { result ≡ index * 2 ^ level }
-{
-    index * size_of(level)
-}
+    // Whether a set is free and in no larger free set.
+    fn is_whole(self, set: RankSet) -> bool
+        ensures { result ≡ whole_by (free_bits bits self.bits) set.level set.index }
+    {
+        self.is_free(set) && (set.level == BITS || !self.is_free(set.doubled()))
+    }
 
-// How many sets of this level so many ranks have.
-fn sets_of(len: usize, level: u32) -> usize
-    requires { level ≤ 6 }
-    ensures { result ≡ len / 2 ^ level }
-{
-    len >> level
-}
-
-// The index of the set of this level that holds a rank.
-pub(crate) fn index_of(rank: usize, level: u32) -> usize
-    requires { level ≤ 6 }
-    ensures { result ≡ rank / 2 ^ level }
-{
-    rank >> level
-}
-
-// Whether a set is free.
-fn set_free(held: u64, levels: u32, level: u32, index: usize) -> bool
-    requires top { levels ≤ 6 }
-    requires low { level ≤ levels }
-    requires within { index * 2 ^ level + 2 ^ level ≤ 2 ^ levels }
-    ensures { result ≡ free_bits levels held level index }
-{
-    part_of(held, first_of(level, index), size_of(level)) == 0
-}
-
-// How many ranks are free.
-pub(crate) fn free_ranks(held: u64, levels: u32) -> usize
-    requires { levels ≤ 6 }
-    ensures { result ≡ count (free_bits levels held 0) (2 ^ levels) }
-{
-    let mut free: usize = 0;
-    for rank in 0..size_of(levels) {
-        if set_free(held, levels, 0, rank) {
-            free += 1;
+    // The whole free set around a free one.
+    pub(crate) fn whole_around(self, set: RankSet) -> RankSet
+        ensures { (result.level, result.index) ≡ around_by bits (free_bits bits self.bits) set.level set.index }
+    {
+        let mut whole = set;
+        while whole.level < BITS && self.is_free(whole.doubled()) {
+            whole = whole.doubled();
         }
+        whole
     }
-    free
-}
 
-// The lowest free set of this level.
-pub(crate) fn lowest(held: u64, levels: u32, level: u32) -> Option<usize>
-    requires top { levels ≤ 6 }
-    requires low { level ≤ levels }
-    ensures { result ≡ lowest_by levels (free_bits levels held) level }
-{
-    for index in 0..sets_of(size_of(levels), level) {
-        if set_free(held, levels, level, index) {
-            return Some(index);
-        }
+    // Another whole free set of this level than that of an index.
+    // A chain of its own beside `lowest`: one function over the test would need a contract about closures.
+    pub(crate) fn other_whole(self, level: u32, index: usize) -> Option<RankSet>
+        requires { level ≤ bits }
+        ensures { Found level (other_by bits (free_bits bits self.bits) level index) result }
+    {
+        (0..SLOTS >> level)
+            .map(|other| RankSet::at(level, other))
+            .find(|&set| set.index != index && self.is_whole(set))
     }
-    None
-}
 
-// Whether a set is free and in no larger free set.
-fn is_whole(held: u64, levels: u32, level: u32, index: usize) -> bool
-    requires top { levels ≤ 6 }
-    requires low { level ≤ levels }
-    requires within { index * 2 ^ level + 2 ^ level ≤ 2 ^ levels }
-    ensures { result ≡ whole_by (free_bits levels held) level index }
-{
-    if !set_free(held, levels, level, index) {
-        return false;
+    // The rightmost free rank outside of the free sets of this level: it is in the rightmost smaller whole free set.
+    pub(crate) fn loose_rank(self, level: u32) -> Option<usize>
+        requires { level ≤ bits }
+        ensures { result ≡ loose_by bits (free_bits bits self.bits) level }
+    {
+        (0..SLOTS).rev().find(|&rank| {
+            self.is_free(RankSet::around(rank, 0)) && !self.is_free(RankSet::around(rank, level))
+        })
     }
-    if level == levels {
-        return true;
-    }
-    !set_free(held, levels, level + 1, index / 2)
-}
-
-// The whole free set around a free one, as level and index.
-pub(crate) fn whole_around(held: u64, levels: u32, level: u32, index: usize) -> (u32, usize)
-    requires top { levels ≤ 6 }
-    requires low { level ≤ levels }
-    requires within { index * 2 ^ level + 2 ^ level ≤ 2 ^ levels }
-    ensures { result ≡ around_by levels (free_bits levels held) level index }
-{
-    let mut l = level;
-    let mut q = index;
-    while l < levels && set_free(held, levels, l + 1, q / 2) {
-        l += 1;
-        q /= 2;
-    }
-    (l, q)
-}
-
-// Another whole free set of this level than this one.
-pub(crate) fn other_whole(held: u64, levels: u32, level: u32, index: usize) -> Option<usize>
-    requires top { levels ≤ 6 }
-    requires low { level ≤ levels }
-    ensures { result ≡ other_by levels (free_bits levels held) level index }
-{
-    for o in 0..sets_of(size_of(levels), level) {
-        if o != index && is_whole(held, levels, level, o) {
-            return Some(o);
-        }
-    }
-    None
-}
-
-// The rightmost free rank outside of the free sets of this level: it is in the rightmost smaller whole free set.
-pub(crate) fn loose_rank(held: u64, levels: u32, level: u32) -> Option<usize>
-    requires top { levels ≤ 6 }
-    requires low { level ≤ levels }
-    ensures { result ≡ loose_by levels (free_bits levels held) level }
-{
-    for rank in (0..size_of(levels)).rev() {
-        if set_free(held, levels, 0, rank) {
-            if !set_free(held, levels, level, index_of(rank, level)) {
-                return Some(rank);
-            }
-        }
-    }
-    None
 }

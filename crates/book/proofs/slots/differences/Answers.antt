@@ -1,25 +1,15 @@
-use Rattle.std.proofs.Common.{◌≡◌, ◌+◌, drop, sym, ◌∙◌, subst, arith}
-use Rattle.book.specs.Slots.{changed_slots}
-use Rattle.book.proofs.Counted.{changed_one, changed_none, changed_end}
+use Rattle.std.proofs.Common.{◌∙◌, rules, tests}
+use Rattle.std.proofs.lemmas.Iterator.{YieldsList-from_slice, YieldsList-from_zip}
+use Rattle.std.proofs.lemmas.Iterator.Consumers.{YieldsList-at, YieldsList-from_filter, count_from_yields_List}
+use Rattle.table.specs.declared.slot.Slot.{Slot}
+use Rattle.book.specs.Slots.{differ}
+use Rattle.book.proofs.Counted.{changed_zip}
 use Rattle.book.proofs.slots.differences.Goals as goal
-use Rattle.book.proofs.slots.differences.Goals.{then-not-same, else-not-same}
-
-pub loop-slot-preserved : goal.loop-slot-preserved
-loop-slot-preserved c =
-    let old = c.args.old.now in
-    let new = c.args.new.now in
-    elim c.if-not-same.branch [
-      | then-not-same w ↦ (
-        subst (λ k. k + changed_slots (drop (c.loop-slot.slot + 1) old) (drop (c.loop-slot.slot + 1) new) ≡ changed_slots old new) (sym w.changed-is)
-            (changed_one old new c.loop-slot.slot c.loop-slot.changed (omega arith) (omega arith) (sym c.same.ensures ∙ w.if-not-same.true) c.loop-slot.invariant.0),
-        omega (arith, w.changed-is, c.loop-slot.invariant.1),
-      )
-      | else-not-same w ↦ (
-        subst (λ k. k + changed_slots (drop (c.loop-slot.slot + 1) old) (drop (c.loop-slot.slot + 1) new) ≡ changed_slots old new) (sym w.changed-is)
-            (changed_none old new c.loop-slot.slot c.loop-slot.changed (omega arith) (omega arith) (sym c.same.ensures ∙ w.if-not-same.false) c.loop-slot.invariant.0),
-        omega (arith, w.changed-is, c.loop-slot.invariant.1),
-      )
-    ]
 
 pub returns : goal.returns
-returns c = changed_end c.args.old.now c.args.new.now c.loop-slot.slot c.loop-slot.changed (omega arith) c.loop-slot.invariant.0
+returns c =
+    let old = c.args.old.now in
+    let new = c.args.new.now in
+    count_from_yields_List c.filter.result _ c.count.ensures.ran
+    (YieldsList-from_filter _ (λ (p : Slot × Slot). differ p.0 p.1) (YieldsList-at c.filter.ensures.source (YieldsList-from_zip (YieldsList-at c.zip.ensures.first (YieldsList-from_slice old cc)) (YieldsList-from_slice new cc))) c.filter.ensures.closure (λ x b q k. search (rules, tests)))
+    ∙ changed_zip old new

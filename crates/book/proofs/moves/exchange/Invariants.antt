@@ -1,5 +1,0 @@
-use Rattle.book.proofs.Views.{Swapped}
-use Rattle.book.proofs.moves.exchange.Given as goal
-
-abbrev pub invariant-loop-k : goal.invariant-loop-k
-invariant-loop-k l = Swapped l.f l.g l.k l.initial.book l.book
