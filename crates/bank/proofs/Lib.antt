@@ -1,5 +1,4 @@
-pub mod Each
-pub mod Keeps
-pub mod Fronts
 pub mod Counts
+pub mod Fitting
+pub mod Kept
 pub mod Written

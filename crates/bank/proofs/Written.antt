@@ -1,11 +1,18 @@
 -- The image of a bank's port, as it is written into a buffer.
 use Rattle.std.proofs.Common.{◌≡◌, ℕ, ◌<◌, ◌≤◌, List, ◌++◌, length, take, drop, Ok, ap, ◌∙◌, arith, lt-ltb, le-leb}
 use Rattle.std.proofs.lemmas.List.{take_all}
+use Rattle.table.specs.declared.slot.Slot.{Slot}
 use Rattle.table.specs.Slots.{slots}
 use Rattle.bank.specs.declared.port.Port.{Port}
-use Rattle.bank.specs.Ports.{BankFits, port_at}
+use Rattle.bank.specs.Ports.{BankFits, port_at, slot_at, slot_answer}
 use Rattle.bank.specs.Images.{image_bytes, image_of, image_answer, image_after, read_slot, ReadsBack}
 use Rattle.bank.specs.ImagesLemmas.{reads_back}
+
+-- what the bank answers is the slot
+pub slot_read : (ps : List Port) (p : ℕ) → p < length ps → (s : ℕ) → s < slots → (x : Slot) → Ok x ≡ slot_answer ps p s → x ≡ slot_at ps p s
+slot_read ps p within s low x h =
+    let e : Ok x ≡ Ok (slot_at ps p s) = h ∙ simp (lt-ltb p (length ps) within, lt-ltb s slots low) in
+    cc
 
 module _ (ps : List Port) (fits : BankFits ps) (p : ℕ) (out new : List ℕ) (within : p < length ps) (room : image_bytes ≤ length out)
     (done : new ≡ image_of (take slots (port_at ps p).slots) ++ drop image_bytes out) where

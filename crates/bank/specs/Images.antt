@@ -43,6 +43,10 @@ read_slot image s =
 abbrev pub ReadsBack : List Port → ℕ → List ℕ → Type 0
 ReadsBack ps p image = (s : ℕ) → s < slots → read_slot image s ≡ Ok (slot_at ps p s)
 
+-- the slot s as the bytes have it, whatever its lane
+abbrev pub get_slot : List ℕ → ℕ → Slot
+get_slot image s = record { lane = slice_index image (2 * s); weight = slice_index image (2 * s + 1) }
+
 -- the bytes with another slot s
 abbrev pub put_slot : List ℕ → ℕ → Slot → List ℕ
 put_slot image s x = slice_set (slice_set image (2 * s) x.lane) (2 * s + 1) x.weight

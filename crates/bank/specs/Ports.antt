@@ -1,5 +1,6 @@
 -- What a bank is: its ports, and what each call answers and does to them.
 use Rattle.std.specs.Prelude.{◌≡◌, ℕ, ◌<◌, ◌≤◌, min, max, Bool, true, false, cond, List, [], length, replicate, Ok, Err, Result, nat_lt, slice_index_or, slice_set}
+use Rattle.std.specs.List.{All}
 use Rattle.table.specs.declared.slot.Slot.{Slot}
 use Rattle.table.specs.declared.refusal.Refusal.{Refusal}
 use Rattle.table.specs.declared.refusal.Layer.TheVariants.{Bank}
@@ -24,6 +25,24 @@ port_at ps p = slice_index_or ps p no_port
 -- the slot s of the port p
 abbrev pub slot_at : List Port → ℕ → ℕ → Slot
 slot_at ps p s = slice_index_or (port_at ps p).slots s empty_slot
+
+-- the slot s of one port
+abbrev pub slot_of_port : Port → ℕ → Slot
+slot_of_port q s = slice_index_or q.slots s empty_slot
+
+-- one port with another slot s
+abbrev pub port_with_slot : Port → ℕ → Slot → Port
+port_with_slot q s w = record { «open» = q.«open»; slots = slice_set q.slots s w }
+
+-- one port with another state
+abbrev pub port_with_state : Port → Bool → Port
+port_with_state q b = record { «open» = b; slots = q.slots }
+
+-- what holds of each port of every bank
+pub record PortFits (q : Port) : Type 0 where
+  pub long : length q.slots ≡ slots
+  pub lanes : All (λ x. x.lane < lane_count) q.slots
+  pub weights : All (λ x. x.weight ≤ most_weight) q.slots
 
 -- what holds of the ports of every bank
 pub record BankFits (ps : List Port) : Type 0 where

@@ -1,11 +1,9 @@
 ghost use Rattle.std.specs.Prelude.{◌≡◌, ◌+◌, ◌*◌, ◌<◌, length, Ok};
-ghost use Rattle.table.specs.Slots.{slots};
-ghost use Rattle.bank.specs.Ports.{slot_at};
-ghost use Rattle.bank.specs.Images.{image_answer, image_after, read_slot, ReadsBack, put_slot};
+ghost use Rattle.bank.specs.Images.{image_answer, image_after, read_slot, ReadsBack, get_slot, put_slot};
 
 use crate::bank::Bank;
 use crate::port::LANES;
-use crate::refused::refused;
+use crate::refused::ask;
 use table::rank::SLOTS;
 use table::refusal::{Reason, Refusal};
 use table::slot::Slot;
@@ -19,14 +17,11 @@ pub fn write_image<B: Bank>(bank: &B, port: usize, out: &mut [u8]) -> Result<(),
     ensures after { out.new ≡ image_after (B.ports bank.now) port out.old }
     ensures trip { result ≡ Ok tt → ReadsBack (B.ports bank.now) port out.new }
 {
-    if port >= bank.count() {
-        return Err(refused(Reason::NoSuchPort));
-    }
-    if out.len() < IMAGE_BYTES {
-        return Err(refused(Reason::ShortBuffer));
-    }
+    ask(port < bank.count(), Reason::NoSuchPort)?;
+    ask(out.len() >= IMAGE_BYTES, Reason::ShortBuffer)?;
+    // By number: a bank is asked so, and after `chunks_exact_mut` a proof knows no byte of the buffer.
     for slot in 0..SLOTS {
-        let what = slot_at(bank, port, slot);
+        let what = bank.slot(port, slot)?;
         put_slot(out, slot, what);
     }
     Ok(())
@@ -36,34 +31,21 @@ pub fn write_image<B: Bank>(bank: &B, port: usize, out: &mut [u8]) -> Result<(),
 pub fn read_slot(image: &[u8], slot: usize) -> Result<Slot, Refusal>
     ensures { result ≡ read_slot image.now slot }
 {
-    if image.len() < IMAGE_BYTES {
-        return Err(refused(Reason::ShortBuffer));
-    }
-    if slot >= SLOTS {
-        return Err(refused(Reason::NoSuchSlot));
-    }
-    let first = image[2 * slot];
-    if first / 16 != 0 {
-        return Err(refused(Reason::NoSuchLane));
-    }
-    let lane = first % 16;
-    if lane >= LANES {
-        return Err(refused(Reason::NoSuchLane));
-    }
-    Ok(Slot {
-        lane,
-        weight: image[2 * slot + 1],
-    })
+    ask(image.len() >= IMAGE_BYTES, Reason::ShortBuffer)?;
+    ask(slot < SLOTS, Reason::NoSuchSlot)?;
+    let what = get_slot(image, slot);
+    ask(what.lane < LANES, Reason::NoSuchLane)?;
+    Ok(what)
 }
 
-// A slot that the bank has.
-fn slot_at<B: Bank>(bank: &B, port: usize, slot: usize) -> Slot
-    requires { (port < length (B.ports bank.now)) × (slot < slots) }
-    ensures { result ≡ slot_at (B.ports bank.now) port slot }
+// One slot of an image.
+pub(crate) fn get_slot(image: &[u8], slot: usize) -> Slot
+    requires { 2 * slot + 1 < length image.now }
+    ensures { result ≡ get_slot image.now slot }
 {
-    match bank.slot(port, slot) {
-        Ok(what) => what,
-        Err(_) => unreachable(),
+    Slot {
+        lane: image[2 * slot],
+        weight: image[2 * slot + 1],
     }
 }
 

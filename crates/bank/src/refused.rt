@@ -1,16 +1,17 @@
-ghost use Rattle.std.specs.Prelude.{◌≡◌};
-ghost use Rattle.table.specs.Refusals.{refusal};
-ghost use Rattle.table.specs.declared.refusal.Layer.TheVariants.{Bank};
+ghost use Rattle.std.specs.Prelude.{◌≡◌, true, false, Ok, OnOk, OnErr};
+ghost use Rattle.bank.specs.Ports.{asked};
 
 use table::refusal::{Layer, Reason, Refusal};
 
-// A refusal that a bank found. It names no place.
-pub(crate) fn refused(reason: Reason) -> Refusal
-    ensures { result ≡ refusal Bank reason 0 }
+// A question: answered no it is the bank's refusal, which names no place.
+pub(crate) fn ask(test: bool, reason: Reason) -> Result<(), Refusal>
+    ensures answer { result ≡ asked test reason (Ok tt) }
+    ensures yes { OnOk result (test ≡ true) }
+    ensures no { OnErr result (test ≡ false) }
 {
-    Refusal {
-        reason,
-        place: 0,
-        layer: Layer::Bank,
+    if test {
+        Ok(())
+    } else {
+        Err(Refusal::new(Layer::Bank, reason, 0))
     }
 }
