@@ -1,0 +1,4 @@
+pub mod Turns
+pub mod Finding
+pub mod Answering
+pub mod Stepping

@@ -12,6 +12,10 @@ two_bytes bs at = slice_index bs at * 256 + slice_index bs (at + 1)
 abbrev pub count_of : List ℕ → ℕ
 count_of bs = two_bytes bs 0
 
+-- the same, if the bytes are as many as it wants
+abbrev pub counted : List ℕ → Option ℕ
+counted bs = cond (length bs == 2 + 3 * count_of bs) (Some (count_of bs)) None
+
 -- how many records there are: none where the length is another than the count wants
 abbrev pub record_count : List ℕ → ℕ
 record_count bs = cond (length bs == 2 + 3 * count_of bs) (count_of bs) 0

@@ -1,5 +1,5 @@
 ghost use Rattle.std.specs.Prelude.{◌≡◌, ◌+◌, ◌<◌, length};
-ghost use Rattle.lanes.specs.Captures.{two_bytes, record_count, length_of, is_for, Finds};
+ghost use Rattle.lanes.specs.Captures.{two_bytes, counted, record_count, length_of, is_for, Finds};
 
 use crate::packet::is_packet;
 
@@ -8,21 +8,15 @@ fn two_bytes(bytes: &[u8], at: usize) -> u16
     requires { at + 1 < length bytes.now }
     ensures { result ≡ two_bytes bytes.now at }
 {
-    bytes[at] as u16 * 256 + bytes[at + 1] as u16
+    u16::from_be_bytes([bytes[at], bytes[at + 1]])
 }
 
-// How many records there are.
-pub(crate) fn record_count(bytes: &[u8]) -> usize
-    ensures { result ≡ record_count bytes.now }
+// How many records there are, if the bytes are as many as their count wants.
+fn record_count(bytes: &[u8]) -> Option<usize>
+    ensures { result ≡ counted bytes.now }
 {
-    if bytes.len() < 2 {
-        return 0;
-    }
-    let count = two_bytes(bytes, 0) as usize;
-    if bytes.len() != 2 + 3 * count {
-        return 0;
-    }
-    count
+    let count = u16::from_be_bytes(*bytes.first_chunk()?) as usize;
+    (bytes.len() == 2 + 3 * count).then_some(count)
 }
 
 // The length of record `k`.
@@ -39,20 +33,13 @@ fn is_for(bytes: &[u8], lane: u8, k: usize) -> bool
     requires { k < record_count bytes.now }
     ensures { result ≡ is_for bytes.now lane k }
 {
-    if bytes[2 + k] != lane {
-        return false;
-    }
-    is_packet(length_of(bytes, k))
+    bytes[2 + k] == lane && is_packet(length_of(bytes, k))
 }
 
 // The first record from `from` on that is a packet of the lane.
 pub(crate) fn find(bytes: &[u8], from: usize, lane: u8) -> Option<usize>
     ensures { Finds bytes.now from lane result }
 {
-    for k in from..record_count(bytes) {
-        if is_for(bytes, lane, k) {
-            return Some(k);
-        }
-    }
-    None
+    let count = record_count(bytes)?;
+    (from..count).find(|k| is_for(bytes, lane, *k))
 }

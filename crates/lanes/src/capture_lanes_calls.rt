@@ -5,8 +5,8 @@ ghost use Rattle.lanes.specs.Records.{captures_fit};
 
 use crate::capture::{find, length_of};
 use crate::capture_lanes::CaptureLanes;
-use crate::lanes::{LANES, Lanes};
-use crate::refused::refused;
+use crate::lanes::Lanes;
+use crate::refused::{place_of, refused};
 use table::refusal::{Reason, Refusal};
 
 impl<'a> CaptureLanes<'a> {
@@ -27,25 +27,16 @@ impl<'a> Lanes for CaptureLanes<'a> {
     ghost fits = { λ l. captures_fit l.bytes.now l.next };
 
     fn first(&self, lane: u8) -> Result<Option<u16>, Refusal> {
-        if lane >= LANES {
-            return Err(refused(Reason::NoSuchLane));
-        }
-        match find(self.bytes, self.next[lane as usize], lane) {
-            Some(k) => Ok(Some(length_of(self.bytes, k))),
-            None => Ok(None),
-        }
+        let place = place_of(lane)?;
+        let first = find(self.bytes, self.next[place], lane);
+        Ok(first.map(|k| length_of(self.bytes, k)))
     }
 
     fn take(&mut self, lane: u8) -> Result<u16, Refusal> {
-        if lane >= LANES {
-            return Err(refused(Reason::NoSuchLane));
-        }
-        match find(self.bytes, self.next[lane as usize], lane) {
-            Some(k) => {
-                self.next[lane as usize] = k + 1;
-                Ok(length_of(self.bytes, k))
-            }
-            None => Err(refused(Reason::NoPacket)),
-        }
+        let place = place_of(lane)?;
+        let first = find(self.bytes, self.next[place], lane);
+        let k = first.ok_or(refused(Reason::NoPacket))?;
+        self.next[place] = k + 1;
+        Ok(length_of(self.bytes, k))
     }
 }

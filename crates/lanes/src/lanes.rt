@@ -2,9 +2,7 @@ ghost use Rattle.std.specs.Prelude.{◌≡◌, ℕ, List};
 ghost use Rattle.lanes.specs.Queues.{LanesFit, first_answer, take_answer, after_take};
 
 use table::refusal::Refusal;
-
-// A port carries so many lanes, numbered from 0.
-pub const LANES: u8 = 15;
+pub use table::slot::LANES;
 
 // The lanes of one port. The lane is asked first, and then, for a take, that a packet waits. A refusal changes nothing.
 pub trait Lanes {

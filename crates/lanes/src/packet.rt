@@ -8,5 +8,5 @@ pub const MOST_BYTES: u16 = 4096;
 pub fn is_packet(bytes: u16) -> bool
     ensures { result ≡ is_packet bytes }
 {
-    bytes >= 1 && bytes <= MOST_BYTES
+    (1..=MOST_BYTES).contains(&bytes)
 }

@@ -1,17 +1,14 @@
-ghost use Rattle.std.specs.Prelude.{◌≡◌, ℕ, ◌<◌, ◌≤◌, true, length};
-ghost use Rattle.table.specs.Slots.{lane_count};
-ghost use Rattle.lanes.specs.Queues.{all_packets};
-ghost use Rattle.lanes.specs.OneLane.{lane_at, lane_room, held};
+ghost use Rattle.std.proofs.Props.{props};
+ghost use Rattle.lanes.specs.Queues.{LanesFit};
 
-use crate::lane::Lane;
+use crate::ring::Ring;
+
+// A lane has room for so many packets.
+pub const LANE_ROOM: usize = 16;
 
 // Lanes that hold up to sixteen packets each.
 #[derive(Drop)]
 pub struct RingLanes {
-    pub(crate) lanes: [Lane; 15],
-    ghost long: { length lanes ≡ lane_count },
-    ghost wide: { (k : ℕ) → k < lane_count → length (lane_at lanes k).row ≡ lane_room },
-    ghost within: { (k : ℕ) → k < lane_count → (lane_at lanes k).ring.first < lane_room },
-    ghost room: { (k : ℕ) → k < lane_count → (lane_at lanes k).ring.len ≤ lane_room },
-    ghost packets: { (k : ℕ) → k < lane_count → all_packets (held (lane_at lanes k)) ≡ true },
+    pub(crate) lanes: [Ring<u16, LANE_ROOM>; 15],
+    ghost fit: { LanesFit lanes } by { Prim.hlevel props },
 }

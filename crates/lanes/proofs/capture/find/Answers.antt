@@ -1,14 +1,19 @@
-use Rattle.std.proofs.Common.{sym, ◌∙◌, arith}
-use Rattle.lanes.specs.Records.{passed_over, found, at_end}
+use Rattle.std.proofs.Common.{◌≡◌, ◌-◌, sym, subst, refl, ap, ◌∙◌, rules}
+use Rattle.std.specs.List.{find, range_with_len}
+use Rattle.std.proofs.lemmas.Iterator.{YieldsList-from_range}
+use Rattle.std.proofs.lemmas.Iterator.Adapters.{option_map_id}
+use Rattle.std.proofs.lemmas.Iterator.Search.{find_from_yields_List}
+use Rattle.lanes.specs.Captures.{record_count, is_for, Finds}
+use Rattle.lanes.proofs.Finding.{finds}
 use Rattle.lanes.proofs.capture.find.Goals as goal
 
-pub returns-then-is_for : goal.returns-then-is_for
-returns-then-is_for c =
-    let bs = c.args.bytes.now in
-    (omega arith, sym c.loop-k.invariant ∙ found bs c.args.lane c.loop-k.k (omega arith) (sym c.is_for.ensures ∙ c.if-is_for.true))
-
-pub loop-k-preserved : goal.loop-k-preserved
-loop-k-preserved c = passed_over c.args.bytes.now c.args.lane c.loop-k.k (omega arith) (sym c.is_for.ensures ∙ c.if-is_for.false) ∙ c.loop-k.invariant
-
 pub returns : goal.returns
-returns c = sym c.loop-k.invariant ∙ at_end c.args.bytes.now c.args.lane c.loop-k.k (omega arith)
+returns c =
+    let bs = c.args.bytes.now in
+    let from = c.args.from in
+    let test = is_for bs c.args.lane in
+    let count : c.in_ok-count.count ≡ record_count bs = search rules in
+    let is : c.find.result ≡ find test (range_with_len from (c.in_ok-count.count - from)) =
+    sym (option_map_id c.find.result)
+    ∙ find_from_yields_List test _ _ c.find.result c.find.ensures.ran (YieldsList-from_range from c.in_ok-count.count (c.in_ok-count.count - from) refl refl) (λ x b q k. search rules) in
+    subst (Finds bs from c.args.lane) (sym (is ∙ ap (λ n. find test (range_with_len from (n - from))) count)) (finds bs c.args.lane from)

@@ -1,6 +1,9 @@
-use Rattle.std.proofs.Common.{arith}
-use Rattle.lanes.specs.Turns.{front_item}
+use Rattle.std.proofs.Common.{ap, ◌∙◌, arith, rules}
+use Rattle.lanes.specs.Queues.{first_of}
+use Rattle.lanes.proofs.Turns.{front_item}
 use Rattle.lanes.proofs.ring.Ring.front.Goals as goal
 
 pub returns : goal.returns
-returns g c = front_item c.args.self.now.first c.args.self.now.len c.args.rows.now _ c.requires.within (omega arith) c.index-rows-self.is
+returns g c =
+    let r = c.self.inside in
+    front_item g.row.N r.first r.len r.rows _ (search rules) c.self.invariant.0 (omega arith) ∙ ap first_of c.self.view_is

@@ -1,9 +1,11 @@
-use Rattle.std.proofs.Common.{arith, length-set}
-use Rattle.lanes.specs.Turns.{pushed}
+use Rattle.std.proofs.Common.{[], ◌∷◌, ◌++◌, length, ap, ◌∙◌, arith, rules}
+use Rattle.lanes.proofs.Turns.{pushed, length_items}
 use Rattle.lanes.proofs.ring.Ring.push.Goals as goal
 
 pub returns : goal.returns
-returns g c = record {
-  sound = record { within = simp length-set c.requires.sound.within; room = simp length-set (omega (arith, c.requires.room)) };
-  after = pushed c.args.self.now.first c.args.self.now.len _ c.args.rows.now c.args.x c.requires.sound.within c.requires.room c.place-at.ensures.value;
-}
+returns g c =
+    let r = c.self.inside in
+    let count = length_items g.row.N r.first r.rows (search rules) c.self.invariant.0 r.len c.self.invariant.1 in
+    let same = ap length c.self.view_is in
+    pushed g.row.N r.first r.rows (search rules) c.self.invariant.0 r.len c.args.item (omega arith)
+    ∙ ap (λ l. l ++ (c.args.item ∷ [])) c.self.view_is
