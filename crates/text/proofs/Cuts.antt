@@ -1,60 +1,20 @@
--- One step of each scan, the next part of a line, and that the parts are the line.
-use Rattle.std.proofs.Common.{◌≡◌, ℕ, suc, ◌+◌, ◌-◌, ◌<◌, ◌≤◌, Bool, true, false, cond, List, [], ◌∷◌, map, length, get_or, take, drop, sym, refl, ap, ◌∙◌, subst, ⊎_elim, arith, eq-eqb, ne_eqb}
-use Rattle.std.proofs.lemmas.List.{at_drop_more, at_drop_all, drop-drop, take_all}
+-- The next part of a line, and that the parts are the line.
+use Rattle.std.proofs.Common.{◌≡◌, ℕ, suc, ◌+◌, ◌-◌, ◌<◌, ◌≤◌, List, [], ◌∷◌, map, length, take, drop, Some, None, Option, sym, refl, ap, ◌∙◌, subst, ⊎_elim, arith, eq-eqb, ne_eqb}
+use Rattle.std.proofs.lemmas.List.{drop-drop, take_all}
 use Rattle.std.proofs.lemmas.Bool.{cases_eq}
-use Rattle.text.specs.declared.bytes.Class.{Class}
-use Rattle.text.specs.declared.bytes.Class.TheVariants.{Digit, Letter, Blank, Stray}
-use Rattle.text.specs.Bytes.{class_of}
 use Rattle.text.specs.Parts.{Part, part, blank, grown, parts_from, parts_of, blank_after, follow, joined, Stands, AllStand, Cut}
-use Rattle.text.specs.declared.fields.Fields.{Fields}
-use Rattle.text.specs.Tokens.{Token, is_letter, all_letters, token_of}
-use Rattle.text.specs.Cursor.{to_come}
-
--- the scan for a blank
-
-pub blank_here : (xs : List ℕ) (i : ℕ) → i < length xs → get_or xs i 0 ≡ blank → blank_after (drop i xs) ≡ 0
-blank_here xs i h e = at_drop_more blank_after xs i 0 h ∙ rw (eq-eqb (get_or xs i 0) blank e)
-
-pub blank_later : (xs : List ℕ) (i : ℕ) → i < length xs → (get_or xs i 0 ≡ blank → ⊥) → blank_after (drop i xs) ≡ blank_after (drop (i + 1) xs) + 1
-blank_later xs i h n = at_drop_more blank_after xs i 0 h ∙ rw (ne_eqb (get_or xs i 0) blank n)
-
-pub blank_none : (xs : List ℕ) (i : ℕ) → length xs ≤ i → blank_after (drop i xs) ≡ 0
-blank_none xs i h = at_drop_all blank_after xs i h
-
--- the scan for letters
-
-letter : (c : Class) → c ≡ Letter → is_letter c ≡ true
-letter c e = ap is_letter e
-
-no_letter : (c : Class) → (c ≡ Letter → ⊥) → is_letter c ≡ false
-no_letter Digit n = refl
-no_letter Letter n = absurd (n refl)
-no_letter Blank n = refl
-no_letter Stray n = refl
-
-pub letters_more : (xs : List ℕ) (i : ℕ) → i < length xs → class_of (get_or xs i 0) ≡ Letter → all_letters (drop i xs) ≡ all_letters (drop (i + 1) xs)
-letters_more xs i h e = at_drop_more all_letters xs i 0 h ∙ ap (λ w. cond w (all_letters (drop (i + 1) xs)) false) (letter (class_of (get_or xs i 0)) e)
-
-pub letters_not : (xs : List ℕ) (i : ℕ) → i < length xs → (class_of (get_or xs i 0) ≡ Letter → ⊥) → all_letters (drop i xs) ≡ false
-letters_not xs i h n = at_drop_more all_letters xs i 0 h ∙ ap (λ w. cond w (all_letters (drop (i + 1) xs)) false) (no_letter (class_of (get_or xs i 0)) n)
-
-pub letters_all : (xs : List ℕ) (i : ℕ) → length xs ≤ i → all_letters (drop i xs) ≡ true
-letters_all xs i h = at_drop_all all_letters xs i h
+use Rattle.text.specs.Tokens.{Token, token_of}
+use Rattle.text.specs.Cursor.{fields_from}
+use Rattle.text.proofs.Scans.{here, later}
 
 -- the next part of a line
-
-here : (b : ℕ) (bs : List ℕ) → b ≡ blank → blank_after (b ∷ bs) ≡ 0
-here b bs e = rw (eq-eqb b blank e)
-
-later : (b : ℕ) (bs : List ℕ) → (b ≡ blank → ⊥) → blank_after (b ∷ bs) ≡ blank_after bs + 1
-later b bs n = rw (ne_eqb b blank n)
 
 pub part_last : (at : ℕ) (bs : List ℕ) → blank_after bs ≡ length bs → parts_from at bs ≡ part at bs ∷ []
 part_last at [] e = refl
 part_last at (b ∷ bs) e =
     ⊎_elim
-    (λ is. absurd (omega (arith, here b bs is)))
-    (λ ne. rw (ne_eqb b blank ne) (ap (grown at b) (part_last (at + 1) bs (omega (arith, later b bs ne)))))
+    (λ is. absurd (omega (arith, here blank b bs is)))
+    (λ ne. rw (ne_eqb b blank ne) (ap (grown at b) (part_last (at + 1) bs (omega (arith, later blank b bs ne)))))
     (cases_eq b blank)
 
 part_after : (at n : ℕ) (bs : List ℕ) → blank_after bs ≡ n → n < length bs → parts_from at bs ≡ part at (take n bs) ∷ parts_from (at + suc n) (drop (suc n) bs)
@@ -62,12 +22,12 @@ part_after at n [] e h = absurd (omega arith)
 part_after at n (b ∷ bs) e h =
     ⊎_elim
     (λ is.
-    let z : n ≡ 0 = sym e ∙ here b bs is in
+    let z : n ≡ 0 = sym e ∙ here blank b bs is in
     subst (λ m. parts_from at (b ∷ bs) ≡ part at (take m (b ∷ bs)) ∷ parts_from (at + suc m) (drop (suc m) (b ∷ bs))) (sym z)
     (rw (eq-eqb b blank is)))
     (λ ne.
     let m : ℕ = blank_after bs in
-    let z : n ≡ suc m = omega (arith, later b bs ne) in
+    let z : n ≡ suc m = omega (arith, later blank b bs ne) in
     let lt : m < length bs = omega arith in
     let far : (at + 1) + suc m ≡ at + suc (suc m) = omega arith in
     subst (λ k. parts_from at (b ∷ bs) ≡ part at (take k (b ∷ bs)) ∷ parts_from (at + suc k) (drop (suc k) (b ∷ bs))) (sym z)
@@ -81,29 +41,19 @@ part_more line at n e h =
 
 -- the fields still to come, where the first of them is given
 
--- what is to come in a line from a place on
-abbrev coming : Bool → ℕ → List ℕ → List Token
-coming more at line = cond more (map token_of (parts_from at (drop at line))) []
-
-pub step_more : (f g : Fields) (t : Token) (n : ℕ) (rs : List ℕ) → f.«open» ≡ true → rs ≡ drop f.at f.line.now → n ≡ blank_after rs → n < length rs → t ≡ token_of (part f.at (take (n - 0) rs)) → g.line.now ≡ f.line.now → g.at ≡ f.at + n + 1 → g.«open» ≡ true → to_come f ≡ t ∷ to_come g
-step_more f g t n rs o r e h is gl ga go =
-    let line : List ℕ = f.line.now in
-    let at : ℕ = f.at in
+pub step_more : (line rs : List ℕ) (o next : Option ℕ) (t : Token) (at n : ℕ) → o ≡ Some at → rs ≡ drop at line → n ≡ blank_after rs → n < length rs → t ≡ token_of (part at (take (n - 0) rs)) → next ≡ Some (at + n + 1) → fields_from line o ≡ t ∷ fields_from line next
+step_more line rs o next t at n oe r e h is ne =
     let n-is : n - 0 ≡ n = omega arith in
     let long : n < length (drop at line) = omega (arith, ap length r) in
     let first : token_of (part at (take n (drop at line))) ≡ t = sym (is ∙ (λ i. token_of (part at (take (n-is i) (r i))))) in
-    let rest : coming true (at + n + 1) line ≡ to_come g = λ i. coming (sym go i) (sym ga i) (sym gl i) in
-    ap (λ b. coming b at line) o ∙ ap (map token_of) (part_more line at n (sym (e ∙ ap blank_after r)) long) ∙ (λ i. first i ∷ rest i)
+    ap (fields_from line) oe ∙ ap (map token_of) (part_more line at n (sym (e ∙ ap blank_after r)) long) ∙ (λ i. first i ∷ fields_from line (sym ne i))
 
-pub step_last : (f g : Fields) (t : Token) (n : ℕ) (rs : List ℕ) → f.«open» ≡ true → rs ≡ drop f.at f.line.now → n ≡ blank_after rs → n ≤ length rs → length rs ≤ n → t ≡ token_of (part f.at (take (n - 0) rs)) → g.«open» ≡ false → to_come f ≡ t ∷ to_come g
-step_last f g t n rs o r e le ge is go =
-    let line : List ℕ = f.line.now in
-    let at : ℕ = f.at in
+pub step_last : (line rs : List ℕ) (o next : Option ℕ) (t : Token) (at n : ℕ) → o ≡ Some at → rs ≡ drop at line → n ≡ blank_after rs → n ≤ length rs → length rs ≤ n → t ≡ token_of (part at (take (n - 0) rs)) → next ≡ None → fields_from line o ≡ t ∷ fields_from line next
+step_last line rs o next t at n oe r e le ge is ne =
     let all : take (n - 0) rs ≡ rs = take_all (n - 0) rs (omega arith) in
     let long : blank_after (drop at line) ≡ length (drop at line) = omega (arith, ap length r, ap blank_after r) in
     let first : token_of (part at (drop at line)) ≡ t = sym (is ∙ ap (λ bs. token_of (part at bs)) (all ∙ r)) in
-    let rest : [] ≡ to_come g = λ i. coming (sym go i) g.at g.line.now in
-    ap (λ b. coming b at line) o ∙ ap (map token_of) (part_last at (drop at line) long) ∙ (λ i. first i ∷ rest i)
+    ap (fields_from line) oe ∙ ap (map token_of) (part_last at (drop at line) long) ∙ (λ i. first i ∷ fields_from line (sym ne i))
 
 -- the parts are the line
 

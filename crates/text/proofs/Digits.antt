@@ -1,28 +1,11 @@
 -- One digit after another, and that a number's bytes are its decimal spelling.
-use Rattle.std.proofs.Common.{◌≡◌, ℕ, suc, ◌+◌, ◌-◌, ◌*◌, ◌<◌, ◌≤◌, Bool, true, false, cond, eqb, leb, List, [], ◌∷◌, length, get_or, take, drop, Some, None, decimal, Option, sym, refl, ap, ◌∙◌, ⊎_elim, arith, rules, eq-eqb, ne_eqb, le-leb}
+use Rattle.std.proofs.Common.{◌≡◌, ℕ, ◌+◌, ◌-◌, ◌*◌, ◌<◌, ◌≤◌, Bool, true, false, cond, leb, List, [], ◌∷◌, length, get_or, Some, None, decimal, Option, sym, refl, ap, ◌∙◌, ⊎_elim, arith, rules, eq-eqb, ne_eqb, le-leb}
 use borrow.Author.Tests.{true-leb}
 use Rattle.std.proofs.lemmas.Fmt.{decimal_digit, decimal-digits_value, digits_decimal, digits_value-decimal, first_decimal, decimal_nonempty}
-use Rattle.std.proofs.lemmas.List.{take_all}
 use Rattle.std.proofs.lemmas.Str.Parse.{IsNumeralModel, numerals_by_fold}
 use Rattle.std.proofs.lemmas.Bool.{cases_eq}
-use Rattle.text.specs.declared.bytes.Class.TheVariants.{Digit, Letter, Blank, Stray}
-use Rattle.text.specs.Bytes.{within, class_of}
+use Rattle.text.specs.Bytes.{within}
 use Rattle.text.specs.Numbers.{most, digits_from, zero_then, number_of, Spells}
-
-digit_way : (w v u : Bool) → cond w Digit (cond v Letter (cond u Blank Stray)) ≡ Digit → w ≡ true
-digit_way true v u e = refl
-digit_way false true u e = cc
-digit_way false false true e = cc
-digit_way false false false e = cc
-
-pub digits_none : (s : ℕ) (xs : List ℕ) → length xs ≡ 0 → Some s ≡ digits_from s xs
-digits_none s [] e = refl
-digits_none s (b ∷ bs) e = absurd (omega arith)
-
-pub digits_more : (s : ℕ) (xs : List ℕ) → 0 < length xs → class_of (get_or xs 0 0) ≡ Digit → s * 10 + (get_or xs 0 0 - 48) ≤ most → digits_from (s * 10 + (get_or xs 0 0 - 48)) (take (length xs - 1) (drop 1 xs)) ≡ digits_from s xs
-digits_more s [] h d le = absurd (omega arith)
-digits_more s (b ∷ bs) h d le =
-    rw (digit_way (within 48 57 b) (within 97 122 b) (eqb b 32) d, le-leb (s * 10 + (b - 48)) most le, take_all (suc (length bs) - 1) bs (omega arith))
 
 -- are all bytes digits?
 abbrev pub digs : List ℕ → Bool
@@ -42,12 +25,12 @@ decimal_digs n h = digits_decimal own n (omega arith)
 
 pick : (n : ℕ) (w l : Bool) (x : Option ℕ) → cond w (cond l x None) None ≡ Some n → (w ≡ true) × (l ≡ true) × (x ≡ Some n)
 pick n true true x e = (refl, refl, e)
-pick n true false x e = absurd (let z : ◌≡◌ {A = ℕ} 0 1 = cc in omega arith)
-pick n false l x e = absurd (let z : ◌≡◌ {A = ℕ} 0 1 = cc in omega arith)
+pick n true false x e = absurd (cc)
+pick n false l x e = absurd (cc)
 
-both : (w x : Bool) → cond w x false ≡ true → (w ≡ true) × (x ≡ true)
+pub both : (w x : Bool) → cond w x false ≡ true → (w ≡ true) × (x ≡ true)
 both true x e = (refl, e)
-both false x e = absurd (let z : ◌≡◌ {A = ℕ} 0 1 = cc in omega arith)
+both false x e = absurd (cc)
 
 grows : (bs : List ℕ) (s : ℕ) → s ≤ read_on s bs
 grows [] s = omega arith
@@ -71,10 +54,10 @@ zero_alone : (b n : ℕ) (bs : List ℕ) → b ≡ 48 → zero_then bs ≡ Some 
 zero_alone b n [] is e =
     let q : 0 ≡ n = cc in
     (ap (λ x. x ∷ []) is ∙ sym (decimal_digit 0 (omega arith)) ∙ ap decimal q, omega arith)
-zero_alone b n (x ∷ xs) is e = absurd (let z : ◌≡◌ {A = ℕ} 0 1 = cc in omega arith)
+zero_alone b n (x ∷ xs) is e = absurd (cc)
 
 pub spelled : (bs : List ℕ) (n : ℕ) → number_of bs ≡ Some n → (bs ≡ decimal n) × (n ≤ most)
-spelled [] n e = absurd (let z : ◌≡◌ {A = ℕ} 0 1 = cc in omega arith)
+spelled [] n e = absurd (cc)
 spelled (b ∷ bs) n e =
     ⊎_elim
     (λ is. zero_alone b n bs is (rw (eq-eqb b 48 is) at e))
@@ -98,4 +81,4 @@ number_decimal n h =
 
 pub spells : (bs : List ℕ) (r : Option ℕ) → r ≡ number_of bs → Spells bs r
 spells bs (Some n) e = spelled bs n (sym e)
-spells bs None e = λ n h is. let z : None ≡ Some n = e ∙ ap number_of is ∙ number_decimal n h in let q : ◌≡◌ {A = ℕ} 0 1 = cc in omega arith
+spells bs None e = λ n h is. let z : None ≡ Some n = e ∙ ap number_of is ∙ number_decimal n h in cc

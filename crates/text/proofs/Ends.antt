@@ -1,39 +1,22 @@
--- The scan for a line feed, the first line of a text, and that the lines are the text.
-use Rattle.std.proofs.Common.{◌≡◌, ℕ, suc, ◌+◌, ◌<◌, ◌≤◌, List, [], ◌∷◌, length, get_or, take, drop, Some, sym, refl, ap, ◌∙◌, subst, ⊎_elim, arith, eq-eqb, ne_eqb}
-use Rattle.std.proofs.lemmas.List.{at_drop_more, at_drop_all, take_all, drop_all, length-drop}
+-- The first line of a text, and that the lines are the text.
+use Rattle.std.proofs.Common.{◌≡◌, ℕ, suc, ◌+◌, ◌<◌, ◌≤◌, List, [], ◌∷◌, length, take, drop, min, sym, refl, ap, ◌∙◌, subst, ⊎_elim, arith, eq-eqb, ne_eqb}
+use Rattle.std.proofs.lemmas.List.{take_all, drop_all}
 use Rattle.std.proofs.lemmas.Bool.{cases_eq, cases_lt}
-use Rattle.text.specs.Feed.{Split, split_of}
 use Rattle.text.specs.Lines.{feed, led, lines_of, feed_after, ended, completed, AllFeedless, Sheet}
-
--- the scan
-
-pub feed_here : (xs : List ℕ) (i : ℕ) → i < length xs → get_or xs i 0 ≡ feed → feed_after (drop i xs) ≡ 0
-feed_here xs i h e = at_drop_more feed_after xs i 0 h ∙ rw (eq-eqb (get_or xs i 0) feed e)
-
-pub feed_later : (xs : List ℕ) (i : ℕ) → i < length xs → (get_or xs i 0 ≡ feed → ⊥) → feed_after (drop i xs) ≡ feed_after (drop (i + 1) xs) + 1
-feed_later xs i h n = at_drop_more feed_after xs i 0 h ∙ rw (ne_eqb (get_or xs i 0) feed n)
-
-pub feed_none : (xs : List ℕ) (i : ℕ) → length xs ≤ i → feed_after (drop i xs) ≡ 0
-feed_none xs i h = at_drop_all feed_after xs i h
+use Rattle.text.proofs.Scans.{here, later}
 
 -- the first line
-
-here : (b : ℕ) (bs : List ℕ) → b ≡ feed → feed_after (b ∷ bs) ≡ 0
-here b bs e = rw (eq-eqb b feed e)
-
-later : (b : ℕ) (bs : List ℕ) → (b ≡ feed → ⊥) → feed_after (b ∷ bs) ≡ feed_after bs + 1
-later b bs n = rw (ne_eqb b feed n)
 
 first_ended : (n : ℕ) (bs : List ℕ) → feed_after bs ≡ n → n < length bs → lines_of bs ≡ take n bs ∷ lines_of (drop (suc n) bs)
 first_ended n [] e h = absurd (omega arith)
 first_ended n (b ∷ bs) e h =
     ⊎_elim
     (λ is.
-    let z : n ≡ 0 = sym e ∙ here b bs is in
+    let z : n ≡ 0 = sym e ∙ here feed b bs is in
     subst (λ m. lines_of (b ∷ bs) ≡ take m (b ∷ bs) ∷ lines_of (drop (suc m) (b ∷ bs))) (sym z) (rw (eq-eqb b feed is)))
     (λ ne.
     let m : ℕ = feed_after bs in
-    let z : n ≡ suc m = omega (arith, later b bs ne) in
+    let z : n ≡ suc m = omega (arith, later feed b bs ne) in
     let lt : m < length bs = omega arith in
     subst (λ k. lines_of (b ∷ bs) ≡ take k (b ∷ bs) ∷ lines_of (drop (suc k) (b ∷ bs))) (sym z)
     (rw (ne_eqb b feed ne) (ap (led b) (first_ended m bs refl lt))))
@@ -44,26 +27,23 @@ first_more n bs e h = let s : suc n ≡ n + 1 = omega arith in first_ended n bs 
 
 pub first_last : (bs : List ℕ) → feed_after bs ≡ length bs → 0 < length bs → lines_of bs ≡ bs ∷ []
 first_last [] e h = absurd (omega arith)
-first_last (b ∷ []) e h = ⊎_elim (λ is. absurd (omega (arith, here b [] is))) (λ ne. rw (ne_eqb b feed ne)) (cases_eq b feed)
+first_last (b ∷ []) e h = ⊎_elim (λ is. absurd (omega (arith, here feed b [] is))) (λ ne. rw (ne_eqb b feed ne)) (cases_eq b feed)
 first_last (b ∷ c ∷ bs) e h =
     ⊎_elim
-    (λ is. absurd (omega (arith, here b (c ∷ bs) is)))
+    (λ is. absurd (omega (arith, here feed b (c ∷ bs) is)))
     (λ ne.
-    let rest : lines_of (c ∷ bs) ≡ (c ∷ bs) ∷ [] = first_last (c ∷ bs) (omega (arith, later b (c ∷ bs) ne)) (omega arith) in
+    let rest : lines_of (c ∷ bs) ≡ (c ∷ bs) ∷ [] = first_last (c ∷ bs) (omega (arith, later feed b (c ∷ bs) ne)) (omega arith) in
     rw (ne_eqb b feed ne) (ap (led b) rest))
     (cases_eq b feed)
 
 -- the bytes before the first line feed and those after it are a first line and the rest
 
-pub split_some : (bs line rest : List ℕ) → line ≡ take (feed_after bs) bs → rest ≡ drop (feed_after bs + 1) bs → 0 < length bs → Some (record { line = line; rest = rest }) ≡ split_of bs
-split_some [] line rest l r h = absurd (omega arith)
-split_some (b ∷ bs) line rest l r h = λ i. Some (record { line = l i; rest = r i })
-
-pub split_shorter : (bs : List ℕ) (s : Split) → Some s ≡ split_of bs → length s.rest < length bs
-split_shorter [] s e = absurd (let z : ◌≡◌ {A = ℕ} 0 1 = cc in omega arith)
-split_shorter (b ∷ bs) s e =
-    let is : s ≡ record { line = take (feed_after (b ∷ bs)) (b ∷ bs); rest = drop (feed_after (b ∷ bs) + 1) (b ∷ bs) } = cc in
-    omega (arith, ap (λ (x : Split). length x.rest) is, length-drop (feed_after (b ∷ bs) + 1) (b ∷ bs))
+pub next_line : (bs : List ℕ) (next : ℕ) → next ≡ min (length bs) (feed_after bs + 1) → drop next bs ≡ drop (feed_after bs + 1) bs
+next_line bs next e =
+    ⊎_elim
+    (λ lt. ap (λ k. drop k bs) (omega arith))
+    (λ ge. drop_all next bs (omega arith) ∙ sym (drop_all (feed_after bs + 1) bs (omega arith)))
+    (cases_lt (feed_after bs + 1) (length bs))
 
 pub lines_split : (bs line rest : List ℕ) → line ≡ take (feed_after bs) bs → rest ≡ drop (feed_after bs + 1) bs → feed_after bs ≤ length bs → 0 < length bs → lines_of bs ≡ line ∷ lines_of rest
 lines_split bs line rest l r le h =

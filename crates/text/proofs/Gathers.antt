@@ -1,6 +1,6 @@
 -- Gathering the numbers of a line one by one.
-use Rattle.std.proofs.Common.{◌≡◌, ℕ, ◌+◌, ◌<◌, ◌≤◌, true, false, cond, ltb, List, [], ◌∷◌, ◌++◌, length, get_or, take, set, Some, None, Ok, Err, Option, Result, sym, refl, ap, ◌∙◌, ⊎_elim, append_assoc, append-nil, arith, le-ltb, lt-ltb}
-use Rattle.std.proofs.lemmas.List.{take_all, take-append-le, take-take, take_more_set, length_push, length-take-le, get_or-take}
+use Rattle.std.proofs.Common.{◌≡◌, ℕ, ◌<◌, ◌≤◌, true, false, cond, ltb, List, [], ◌∷◌, ◌++◌, length, get_or, take, Some, None, Ok, Err, Option, Result, sym, refl, ap, ◌∙◌, ⊎_elim, append_assoc, append-nil, arith, le-ltb, lt-ltb}
+use Rattle.std.proofs.lemmas.List.{take_all, take-append-le, take-take, length-take-le, get_or-take}
 use Rattle.std.proofs.lemmas.Bool.{cases_lt}
 use Rattle.table.specs.declared.refusal.Reason.TheVariants.{WrongCount}
 use Rattle.table.specs.declared.refusal.Refusal.{Refusal}
@@ -15,16 +15,10 @@ use Rattle.text.specs.Commands.{given, before, numbers_in, refused, form_named, 
 use Rattle.text.specs.Sizes.{keep}
 use Rattle.text.specs.Gathered.{kept, formed, form_first}
 
--- one more, where there is room and where there is none
+-- one more, where there is no room
 
-pub push_more : (xs : List Given) (n : ℕ) (g : Given) → n < keep → length xs ≡ keep → take (n + 1) (set xs n g) ≡ take keep (take n xs ++ (g ∷ []))
-push_more xs n g h e =
-    take_more_set xs n g (omega arith) ∙ sym (take_all keep (take n xs ++ (g ∷ [])) (omega (arith, length_push (take n xs) g, length-take-le n xs (omega arith))))
-
-pub push_full : (xs : List Given) (n : ℕ) (g : Given) → n ≤ keep → keep ≤ n → length xs ≡ keep → take n xs ≡ take keep (take n xs ++ (g ∷ []))
-push_full xs n g le ge e =
-    let long : length (take n xs) ≡ n = length-take-le n xs (omega arith) in
-    sym (take-append-le keep (take n xs) (g ∷ []) (omega arith) ∙ take_all keep (take n xs) (omega arith))
+pub push_full : (hs : List Given) (g : Given) → length hs ≡ keep → hs ≡ take keep (hs ++ (g ∷ []))
+push_full hs g e = sym (take-append-le keep hs (g ∷ []) (omega arith) ∙ take_all keep hs (omega arith))
 
 -- what comes of the numbers so far and those to come
 abbrev pub onward : List Given → Result (List Given) Refusal → Result (List Given) Refusal
@@ -44,10 +38,6 @@ onward_more : (hs : List Given) (g : Given) (r : Result (List Given) Refusal) �
 onward_more hs g (Ok gs) = ap Ok (take_again keep (hs ++ (g ∷ [])) gs ∙ ap (take keep) (append_assoc hs (g ∷ []) gs))
 onward_more hs g (Err e) = refl
 
-pub begun : (hs : List Given) (r : Result (List Given) Refusal) → hs ≡ [] → onward hs r ≡ kept r
-begun hs (Ok gs) e = ap (λ l. Ok (take keep (l ++ gs))) e
-begun hs (Err x) e = refl
-
 -- one more number of the fields to come
 pub turn : (hs new : List Given) (n p : ℕ) (ts more : List Token) (all : Result (List Given) Refusal) → onward hs (numbers_in ts) ≡ all → ts ≡ number n p ∷ more → new ≡ take keep (hs ++ (given n p ∷ [])) → onward new (numbers_in more) ≡ all
 turn hs new n p ts more all inv e is = ap (λ l. onward l (numbers_in more)) is ∙ onward_more hs (given n p) (numbers_in more) ∙ sym (ap (λ l. onward hs (numbers_in l)) e) ∙ inv
@@ -55,10 +45,6 @@ turn hs new n p ts more all inv e is = ap (λ l. onward l (numbers_in more)) is 
 -- no more fields
 pub done : (hs : List Given) (ts : List Token) (all : Result (List Given) Refusal) → length hs ≤ keep → onward hs (numbers_in ts) ≡ all → ts ≡ [] → Ok hs ≡ all
 done hs ts all h inv e = ap Ok (sym (take_all keep hs h) ∙ ap (take keep) (sym (append-nil hs))) ∙ sym (ap (λ l. onward hs (numbers_in l)) e) ∙ inv
-
--- a field that is no number
-pub stopped : (hs : List Given) (t : Token) (ts more : List Token) (x : Refusal) (all : Result (List Given) Refusal) → onward hs (numbers_in ts) ≡ all → ts ≡ t ∷ more → numbers_in (t ∷ more) ≡ Err x → Err x ≡ all
-stopped hs t ts more x all inv e is = sym (ap (onward hs) (ap numbers_in e ∙ is)) ∙ inv
 
 -- the numbers kept decide the count as all of them do
 
@@ -98,15 +84,15 @@ count_kept end form gs =
 
 numbers_kept : (end : ℕ) (form : Form) (gs : List Given) (r : Result (List Given) Refusal) → Ok gs ≡ kept r → by_count end form gs ≡ by_numbers end form r
 numbers_kept end form gs (Ok hs) e = let is : gs ≡ take keep hs = cc in ap (by_count end form) is ∙ count_kept end form hs
-numbers_kept end form gs (Err x) e = absurd (let z : ◌≡◌ {A = ℕ} 0 1 = cc in omega arith)
+numbers_kept end form gs (Err x) e = absurd (cc)
 
 form_named_lem : (form : Form) (o : Option Form) → Ok form ≡ formed o → o ≡ Some form
-form_named_lem form None e = absurd (let z : ◌≡◌ {A = ℕ} 0 1 = cc in omega arith)
+form_named_lem form None e = absurd (cc)
 form_named_lem form (Some other) e = cc
 
 -- a line whose first field names a form and whose others are numbers comes to the count
 pub to_count : (f g : Fields) (x : Option Field) (line : List ℕ) (form : Form) (gs : List Given) → to_come f ≡ tokens_of line → Step f x g → Ok form ≡ form_first x → Ok gs ≡ kept (numbers_in (to_come g)) → by_count (length line) form gs ≡ command_of line
-to_count f g None line form gs all step named nums = absurd (let z : ◌≡◌ {A = ℕ} 0 1 = cc in omega arith)
+to_count f g None line form gs all step named nums = absurd (cc)
 to_count f g (Some x) line form gs all step named nums =
     numbers_kept (length line) form gs (numbers_in (to_come g)) nums
     ∙ sym (ap (λ o. by_form (length line) o (to_come g)) (form_named_lem form (form_named (told x)) named))

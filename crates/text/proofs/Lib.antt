@@ -1,3 +1,4 @@
+pub mod Scans
 pub mod Digits
 pub mod Cuts
 pub mod Gathers

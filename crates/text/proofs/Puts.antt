@@ -1,19 +1,9 @@
 -- One write after another is one write.
-use Rattle.std.proofs.Common.{◌≡◌, ℕ, suc, ◌+◌, ◌-◌, ◌*◌, ◌/◌, ◌%◌, ◌<◌, ◌≤◌, List, [], ◌∷◌, ◌++◌, length, get_or, take, drop, set, sym, refl, ap, ◌∙◌, subst, append_assoc, arith, length-append, length-drop, take-append-drop, length-take}
-use borrow.Rule.Slice.PartMut.{put_mid}
-use Rattle.std.proofs.lemmas.List.{drop-drop, drop_at, take_at, length-take-le, set_split, take_more, take_all}
-use Rattle.text.specs.Answers.{put, Wrote, hex_text, hex_digit}
-
-pub put_part : (a n : ℕ) (xs ys : List ℕ) → length ys ≡ n → put_mid a ((a + n) - a) xs ys ≡ put xs a ys
-put_part a n xs ys e =
-    let k : a + ((a + n) - a) ≡ a + length ys = omega arith in
-    ap (λ z. take a xs ++ (ys ++ z)) (drop-drop ((a + n) - a) a xs ∙ ap (λ m. drop m xs) k)
-
-pub put_one : (xs : List ℕ) (at b : ℕ) → at < length xs → set xs at b ≡ put xs at (b ∷ [])
-put_one xs at b h = let e : suc at ≡ at + 1 = omega arith in set_split xs at b h ∙ ap (λ m. take at xs ++ b ∷ drop m xs) e
-
-pub length_put : (xs : List ℕ) (at : ℕ) (bs : List ℕ) → at + length bs ≤ length xs → length (put xs at bs) ≡ length xs
-length_put xs at bs h = simp (length-append, length-take, length-drop) (omega arith)
+use Rattle.std.proofs.Common.{◌≡◌, ℕ, ◌+◌, ◌*◌, ◌≤◌, List, [], ◌∷◌, ◌++◌, length, take, drop, sym, refl, ap, ◌∙◌, append_assoc, arith, length-append, take-append-drop}
+use Rattle.std.proofs.lemmas.List.{drop-drop, drop_at, take_at, length-take-le}
+use Rattle.text.specs.declared.put.Writer.{Writer}
+use Rattle.text.specs.Writers.{Writes}
+use Rattle.text.specs.Answers.{put, Wrote, hex_text}
 
 pub put_then : (xs : List ℕ) (at m : ℕ) (bs cs : List ℕ) → m ≡ at + length bs → at ≤ length xs → put (put xs at bs) m cs ≡ put xs at (bs ++ cs)
 put_then xs at m bs cs e h =
@@ -34,13 +24,6 @@ pub length_hex : (bs : List ℕ) → length (hex_text bs) ≡ 2 * length bs
 length_hex [] = refl
 length_hex (b ∷ bs) = omega (arith, length_hex bs)
 
-hex_append : (bs cs : List ℕ) → hex_text (bs ++ cs) ≡ hex_text bs ++ hex_text cs
-hex_append [] cs = refl
-hex_append (b ∷ bs) cs = ap (λ z. hex_digit (b / 16) ∷ hex_digit (b % 16) ∷ z) (hex_append bs cs)
-
-pub hex_more : (bs : List ℕ) (i : ℕ) → i < length bs → hex_text (take (i + 1) bs) ≡ hex_text (take i bs) ++ (hex_digit (get_or bs i 0 / 16) ∷ hex_digit (get_or bs i 0 % 16) ∷ [])
-hex_more bs i h = ap hex_text (take_more bs i 0 h) ∙ hex_append (take i bs) (get_or bs i 0 ∷ [])
-
 -- one write after another is one write
 pub go_on : {xs was new : List ℕ} {at m n : ℕ} {bs cs : List ℕ} → at ≤ length xs → Wrote xs was at m bs → Wrote was new m n cs → Wrote xs new at n (bs ++ cs)
 go_on {xs} {was} {new} {at} {m} {n} {bs} {cs} h a b = record {
@@ -51,13 +34,8 @@ go_on {xs} {was} {new} {at} {m} {n} {bs} {cs} h a b = record {
 pub wrote_none : (xs : List ℕ) (at : ℕ) → Wrote xs xs at at []
 wrote_none xs at = record { len = omega arith; after = put_none xs at }
 
-pub hex_turn : {xs o a b : List ℕ} {at m n p hi lo : ℕ} (bs : List ℕ) (i : ℕ) → i < length bs → at ≤ length xs → hi ≡ hex_digit (get_or bs i 0 / 16) → lo ≡ hex_digit (get_or bs i 0 % 16) → Wrote xs o at m (hex_text (take i bs)) → Wrote o a m n (hi ∷ []) → Wrote a b n p (lo ∷ []) → Wrote xs b at p (hex_text (take (i + 1) bs))
-hex_turn {xs} {o} {a} {b} {at} {m} {n} {p} {hi} {lo} bs i h le hi-is lo-is w1 w2 w3 =
-    let H : List ℕ = hex_text (take i bs) in
-    subst (Wrote xs b at p) (append_assoc H (hi ∷ []) (lo ∷ []) ∙ (λ j. H ++ (hi-is j ∷ lo-is j ∷ [])) ∙ sym (hex_more bs i h)) (go_on le (go_on le w1 w2) w3)
+pub writes_none : (a : Writer) → Writes a a []
+writes_none a = record { same = refl; long = refl; text = wrote_none a.out.now a.at }
 
-pub hex_room : (bs : List ℕ) (i : ℕ) → i ≤ length bs → length (hex_text (take i bs)) ≡ 2 * i
-hex_room bs i h = omega (arith, length_hex (take i bs), length-take-le i bs h)
-
-pub hex_done : {xs o : List ℕ} {at m : ℕ} (bs : List ℕ) (i : ℕ) → length bs ≤ i → Wrote xs o at m (hex_text (take i bs)) → Wrote xs o at m (hex_text bs)
-hex_done {xs} {o} {at} {m} bs i h w = subst (λ z. Wrote xs o at m (hex_text z)) (take_all i bs h) w
+pub writes_then : {a b c : Writer} {bs cs : List ℕ} → a.at ≤ length a.out.now → Writes a b bs → Writes b c cs → Writes a c (bs ++ cs)
+writes_then h p q = record { same = q.same ∙ p.same; long = q.long ∙ p.long; text = go_on h p.text q.text }

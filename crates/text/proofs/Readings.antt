@@ -17,7 +17,7 @@ use Rattle.text.specs.Parts.{Part, part, blank, grown, parts_from, parts_of, fol
 use Rattle.text.specs.Tokens.{Token, word, stray, is_word, by_number, token_of}
 use Rattle.text.specs.Commands.{Asked, reserve, release, shut, reopen, table, form_of, fewest, most, refused, form_named, given, value_of, before, numbers_in, asks, by_count, by_numbers, by_form, by_fields, command_of}
 use Rattle.text.specs.Spelled.{word_of, numbers_of, behind, line_of, AllLow, PathFits, Askable, Reads}
-use Rattle.text.proofs.Digits.{spelled, number_decimal, digs, decimal_digs}
+use Rattle.text.proofs.Digits.{both, spelled, number_decimal, digs, decimal_digs}
 use Rattle.text.proofs.Cuts.{cut}
 
 -- from the line to the command
@@ -37,7 +37,7 @@ pick_form bs false true c d e form p q r s t is = let f : Release ≡ form = cc 
 pick_form bs false false true d e form p q r s t is = let f : Shut ≡ form = cc in r refl ∙ ap named f
 pick_form bs false false false true e form p q r s t is = let f : Reopen ≡ form = cc in s refl ∙ ap named f
 pick_form bs false false false false true form p q r s t is = let f : Table ≡ form = cc in t refl ∙ ap named f
-pick_form bs false false false false false form p q r s t is = absurd (let z : ◌≡◌ {A = ℕ} 0 1 = cc in omega arith)
+pick_form bs false false false false false form p q r s t is = absurd (cc)
 
 form_word : (bs : List ℕ) (form : Form) → form_of bs ≡ Some form → bs ≡ named form
 form_word bs form e =
@@ -46,19 +46,19 @@ form_word bs form e =
 
 named_none : (p : Part) (form : Form) (w : Bool) → form_named (cond w (word p.bytes p.place) (stray p.bytes p.place)) ≡ Some form → p.bytes ≡ named form
 named_none p form true e = form_word p.bytes form e
-named_none p form false e = absurd (let z : ◌≡◌ {A = ℕ} 0 1 = cc in omega arith)
+named_none p form false e = absurd (cc)
 
 named_from : (p : Part) (form : Form) (o : Option ℕ) → form_named (by_number o p) ≡ Some form → p.bytes ≡ named form
-named_from p form (Some n) e = absurd (let z : ◌≡◌ {A = ℕ} 0 1 = cc in omega arith)
+named_from p form (Some n) e = absurd (cc)
 named_from p form None e = named_none p form (is_word p.bytes) e
 
 before_ok : (g : Given) (r : Result (List Given) Refusal) (gs : List Given) → before g r ≡ Ok gs → (hs : List Given) × ((r ≡ Ok hs) × (gs ≡ g ∷ hs))
 before_ok g (Ok hs) gs e = (hs, (refl, cc))
-before_ok g (Err x) gs e = absurd (let z : ◌≡◌ {A = ℕ} 0 1 = cc in omega arith)
+before_ok g (Err x) gs e = absurd (cc)
 
 no_number : (p : Part) (ts : List Token) (gs : List Given) (w : Bool) → numbers_in (cond w (word p.bytes p.place) (stray p.bytes p.place) ∷ ts) ≡ Ok gs → ⊥
-no_number p ts gs true e = let z : ◌≡◌ {A = ℕ} 0 1 = cc in omega arith
-no_number p ts gs false e = let z : ◌≡◌ {A = ℕ} 0 1 = cc in omega arith
+no_number p ts gs true e = cc
+no_number p ts gs false e = cc
 
 -- parts that are the numbers
 pub record Numbered (ps : List Part) (gs : List Given) : Type 0 where
@@ -78,8 +78,8 @@ numbers_from [] gs e = let is : [] ≡ gs = cc in subst (Numbered []) is (record
 numbers_from (p ∷ ps) gs e = number_step p ps gs (number_of p.bytes) refl e (λ hs h. numbers_from ps hs h)
 
 count_ok : (x y : Bool) (u v : Refusal) (b a : Asked) → cond x (Err u) (cond y (Err v) (Ok b)) ≡ Ok a → (x ≡ false) × (y ≡ false) × (b ≡ a)
-count_ok true y u v b a e = absurd (let z : ◌≡◌ {A = ℕ} 0 1 = cc in omega arith)
-count_ok false true u v b a e = absurd (let z : ◌≡◌ {A = ℕ} 0 1 = cc in omega arith)
+count_ok true y u v b a e = absurd (cc)
+count_ok false true u v b a e = absurd (cc)
 count_ok false false u v b a e = (refl, refl, cc)
 
 -- what a form asks for with as many numbers as it wants is spelled by its word and those
@@ -111,7 +111,7 @@ abbrev Whole : List ℕ → Asked → Type 0
 Whole line a = (line ≡ line_of a) × Askable a
 
 from_numbers : (line : List ℕ) (end : ℕ) (p : Part) (ps : List Part) (form : Form) (a : Asked) (r : Result (List Given) Refusal) → joined (p ∷ ps) ≡ line → p.bytes ≡ named form → numbers_in (map token_of ps) ≡ r → by_numbers end form r ≡ Ok a → Whole line a
-from_numbers line end p ps form a (Err x) join w is e = absurd (let z : ◌≡◌ {A = ℕ} 0 1 = cc in omega arith)
+from_numbers line end p ps form a (Err x) join w is e = absurd (cc)
 from_numbers line end p ps form a (Ok gs) join w is e =
     let k = count_ok (ltb (length gs) (fewest form)) (ltb (most form) (length gs)) (refusal Sheet WrongCount end) (refusal Sheet WrongCount (get_or gs (most form) (given 0 0)).place) (asks form gs) a e in
     let n : Numbered ps gs = numbers_from ps gs is in
@@ -120,18 +120,14 @@ from_numbers line end p ps form a (Ok gs) join w is e =
     subst (Whole line) k.2 (text, record { low = subst AllLow (sym s.numbers) n.low; path = s.path })
 
 from_form : (line : List ℕ) (end : ℕ) (p : Part) (ps : List Part) (a : Asked) (o : Option Form) → joined (p ∷ ps) ≡ line → form_named (token_of p) ≡ o → by_form end o (map token_of ps) ≡ Ok a → Whole line a
-from_form line end p ps a None join is e = absurd (let z : ◌≡◌ {A = ℕ} 0 1 = cc in omega arith)
+from_form line end p ps a None join is e = absurd (cc)
 from_form line end p ps a (Some form) join is e = from_numbers line end p ps form a (numbers_in (map token_of ps)) join (named_from p form (number_of p.bytes) is) refl e
 
 from_parts : (line : List ℕ) (end : ℕ) (ps : List Part) (a : Asked) → joined ps ≡ line → by_fields end (map token_of ps) ≡ Ok a → Whole line a
-from_parts line end [] a join e = absurd (let z : ◌≡◌ {A = ℕ} 0 1 = cc in omega arith)
+from_parts line end [] a join e = absurd (cc)
 from_parts line end (p ∷ ps) a join e = from_form line end p ps a (form_named (token_of p)) join refl e
 
 -- from the command to the line
-
-both : (w x : Bool) → cond w x false ≡ true → (w ≡ true) × (x ≡ true)
-both true x e = (refl, e)
-both false x e = absurd (let z : ◌≡◌ {A = ℕ} 0 1 = cc in omega arith)
 
 digs_blankless : (bs : List ℕ) → digs bs ≡ true → blankless bs ≡ true
 digs_blankless [] e = refl
@@ -142,7 +138,7 @@ digs_blankless (b ∷ bs) e =
     rw (ne_eqb b blank ne) (digs_blankless bs d.1)
 
 blank_way : (b x : Bool) → cond b false x ≡ true → (b ≡ false) × (x ≡ true)
-blank_way true x e = absurd (let z : ◌≡◌ {A = ℕ} 0 1 = cc in omega arith)
+blank_way true x e = absurd (cc)
 blank_way false x e = (refl, e)
 
 -- the parts of numbers that stand behind a place
@@ -232,4 +228,4 @@ accepted a line ok is =
 
 pub reads : (line : List ℕ) (r : Result Asked Refusal) → r ≡ command_of line → Reads line r
 reads line (Ok a) e = from_parts line (length line) (parts_of line) a (cut line).again (sym e)
-reads line (Err x) e = λ a ok is. let z : Err x ≡ Ok a = e ∙ accepted a line ok is in let q : ◌≡◌ {A = ℕ} 0 1 = cc in omega arith
+reads line (Err x) e = λ a ok is. let z : Err x ≡ Ok a = e ∙ accepted a line ok is in cc

@@ -5,15 +5,16 @@ use Rattle.table.specs.declared.refusal.Refusal.{Refusal}
 use Rattle.text.specs.declared.field.Field.{Field}
 use Rattle.text.specs.declared.form.Form.{Form}
 use Rattle.text.specs.declared.numbers.Given.{Given}
-use Rattle.text.specs.declared.numbers.Numbers.{Numbers}
+use Rattle.text.specs.declared.row.Row.{Row}
 use Rattle.text.specs.Sizes.{keep}
+use Rattle.text.specs.Rows.{row_of}
 use Rattle.text.specs.Tokens.{told}
 use Rattle.text.specs.Commands.{refused, form_named}
 
-abbrev pub items_of : Numbers → List Given
-items_of n = take n.len n.items
+abbrev pub items_of : Row Given keep → List Given
+items_of n = row_of n
 
-abbrev pub gathered : Result Numbers Refusal → Result (List Given) Refusal
+abbrev pub gathered : Result (Row Given keep) Refusal → Result (List Given) Refusal
 gathered (Ok n) = Ok (items_of n)
 gathered (Err e) = Err e
 

@@ -1,4 +1,5 @@
 pub mod Sizes
+pub mod Rows
 pub mod Bytes
 pub mod Numbers
 pub mod Parts
@@ -8,6 +9,7 @@ pub mod Commands
 pub mod Told
 pub mod Gathered
 pub mod Answers
+pub mod Writers
 pub mod Lines
 pub mod Feed
 pub mod Spelled

@@ -1,5 +1,6 @@
 -- The input cut into lines, each ended by a line feed, which the last may lack.
-use Rattle.std.specs.Prelude.{◌≡◌, ℕ, ◌+◌, Bool, true, false, cond, List, [], ◌∷◌, ◌++◌, ◌==◌}
+use Rattle.std.specs.Prelude.{◌≡◌, ℕ, Bool, true, cond, List, [], ◌∷◌, ◌++◌, ◌==◌}
+use Rattle.text.specs.Bytes.{bytes_before, lacks}
 
 -- the byte that ends a line
 abbrev pub feed : ℕ
@@ -17,8 +18,7 @@ lines_of (b ∷ bs) = cond (b == feed) ([] ∷ lines_of bs) (led b (lines_of bs)
 
 -- how many bytes stand before the first line feed
 abbrev pub feed_after : List ℕ → ℕ
-feed_after [] = 0
-feed_after (b ∷ bs) = cond (b == feed) 0 (feed_after bs + 1)
+feed_after bs = bytes_before feed bs
 
 -- lines, each with its line feed
 abbrev pub ended : List (List ℕ) → List ℕ
@@ -33,8 +33,7 @@ completed (b ∷ c ∷ bs) = b ∷ completed (c ∷ bs)
 
 -- is there no line feed among the bytes?
 abbrev pub feedless : List ℕ → Bool
-feedless [] = true
-feedless (b ∷ bs) = cond (b == feed) false (feedless bs)
+feedless bs = lacks feed bs
 
 abbrev pub AllFeedless : List (List ℕ) → Type 0
 AllFeedless [] = Unit {0}

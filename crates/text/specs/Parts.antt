@@ -1,5 +1,6 @@
 -- A line cut at its blanks.
-use Rattle.std.specs.Prelude.{◌≡◌, ℕ, ◌+◌, Bool, true, false, cond, List, [], ◌∷◌, ◌++◌, length, take, drop, ◌==◌}
+use Rattle.std.specs.Prelude.{◌≡◌, ℕ, ◌+◌, Bool, true, cond, List, [], ◌∷◌, ◌++◌, length, take, drop, ◌==◌}
+use Rattle.text.specs.Bytes.{bytes_before, lacks}
 
 -- a part of a line: the place where it begins, and its bytes
 pub record Part : Type 0 where
@@ -29,8 +30,7 @@ parts_of line = parts_from 0 line
 
 -- how many bytes stand before the first blank
 abbrev pub blank_after : List ℕ → ℕ
-blank_after [] = 0
-blank_after (b ∷ bs) = cond (b == blank) 0 (blank_after bs + 1)
+blank_after bs = bytes_before blank bs
 
 -- parts that follow another, each behind a blank
 abbrev pub follow : List Part → List ℕ
@@ -44,8 +44,7 @@ joined (p ∷ ps) = p.bytes ++ follow ps
 
 -- is there no blank among the bytes?
 abbrev pub blankless : List ℕ → Bool
-blankless [] = true
-blankless (b ∷ bs) = cond (b == blank) false (blankless bs)
+blankless bs = lacks blank bs
 
 -- a part holds no blank, and is what the line has at its place
 pub record Stands (line : List ℕ) (p : Part) : Type 0 where

@@ -1,5 +1,6 @@
 -- What the fields of a line are.
 use Rattle.std.specs.Prelude.{ℕ, Bool, true, false, cond, List, [], ◌∷◌, map, Some, None, Option}
+use Rattle.std.specs.List.{list_all}
 use Rattle.text.specs.declared.bytes.Class.{Class}
 use Rattle.text.specs.declared.bytes.Class.TheVariants.{Digit, Letter, Blank}
 use Rattle.text.specs.declared.field.Field.{Field}
@@ -22,8 +23,7 @@ is_letter Blank = false
 is_letter Class.Stray = false
 
 abbrev pub all_letters : List ℕ → Bool
-all_letters [] = true
-all_letters (b ∷ bs) = cond (is_letter (class_of b)) (all_letters bs) false
+all_letters bs = list_all (λ b. is_letter (class_of b)) bs
 
 -- is it at least one letter, and nothing else?
 abbrev pub is_word : List ℕ → Bool

@@ -1,9 +1,10 @@
-ghost use Rattle.std.specs.Prelude.{◌≡◌, ◌+◌, ◌≤◌, length};
-ghost use Rattle.text.specs.Parts.{blank_after, parts_of, Cut};
+ghost use Rattle.std.specs.Prelude.{◌≡◌};
+ghost use Rattle.text.specs.Parts.{parts_of, Cut};
 ghost use Rattle.text.specs.Tokens.{tokens_of};
 ghost use Rattle.text.specs.Cursor.{to_come, Step, most_fields};
 ghost use Rattle.std.specs.Iterator.{at_most};
 
+use crate::bytes::bytes_before;
 use crate::field::{Field, read_field};
 use crate::fields::Fields;
 
@@ -14,22 +15,8 @@ pub fn fields<'a>(line: &'a [u8]) -> Fields<'a>
 {
     Fields {
         line,
-        at: 0,
-        open: true,
+        next: Some(0),
     }
-}
-
-// How many bytes stand before the first blank.
-fn blank_after(text: &[u8]) -> usize
-    ensures within { result ≤ length text.now }
-    ensures value { result ≡ blank_after text.now }
-{
-    for (i, byte) in text.iter().enumerate() {
-        if *byte == b' ' {
-            return i;
-        }
-    }
-    text.len()
 }
 
 impl<'a> Iterator for Fields<'a> {
@@ -40,20 +27,14 @@ impl<'a> Iterator for Fields<'a> {
     ghost next_gives = { Step };
 
     fn next(&mut self) -> Option<Field<'a>> {
-        if !self.open {
-            return None;
-        }
-        let at = self.at;
-        let line = self.line;
-        let rest = &line[at..];
-        let n = blank_after(rest);
-        let text = &rest[0..n];
-        if n < rest.len() {
-            self.at = at + n + 1;
+        let at = self.next?;
+        let rest = &self.line[at..];
+        let n = bytes_before(rest, b' ');
+        self.next = if n < rest.len() {
+            Some(at + n + 1)
         } else {
-            self.at = line.len();
-            self.open = false;
-        }
-        Some(read_field(text, at))
+            None
+        };
+        Some(read_field(&rest[0..n], at))
     }
 }

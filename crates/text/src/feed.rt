@@ -5,7 +5,7 @@ pub struct FirstLine<'a> {
     pub rest: &'a [u8],
 }
 
-// The lines of a text that are still to come.
+// The lines of a text that are still to come. (The static library's commands are such an iterator too, of other items by another definition.)
 #[derive(Clone, Copy)]
 pub struct Lines<'a> {
     pub(crate) rest: &'a [u8],

@@ -1,6 +1,7 @@
 ghost use Rattle.std.specs.Prelude.{◌≡◌};
+ghost use Rattle.text.specs.Bytes.{class_of};
 ghost use Rattle.text.specs.Parts.{part};
-ghost use Rattle.text.specs.Tokens.{all_letters, token_of, told};
+ghost use Rattle.text.specs.Tokens.{all_letters, is_letter, token_of, told};
 
 use crate::bytes::{Class, class_of};
 use crate::number::number;
@@ -13,16 +14,16 @@ pub enum Field<'a> {
     Stray(&'a [u8], usize),
 }
 
+fn is_letter(byte: u8) -> bool
+    ensures { result ≡ is_letter (class_of byte) }
+{
+    class_of(byte) == Class::Letter
+}
+
 fn all_letters(text: &[u8]) -> bool
     ensures { result ≡ all_letters text.now }
 {
-    for byte in text {
-        match class_of(*byte) {
-            Class::Letter => {}
-            _ => return false,
-        }
-    }
-    true
+    text.iter().all(|byte| is_letter(*byte))
 }
 
 // The field that the bytes `text` at `place` are.

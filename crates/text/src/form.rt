@@ -1,11 +1,10 @@
 ghost use Rattle.std.specs.Prelude.{◌≡◌};
-ghost use Rattle.std.specs.Str.{bytes_eq};
 ghost use Rattle.text.specs.Commands.{form_of, fewest, most};
 
 use crate::path::MOST_PORTS;
 
 // The form of a line, by its first word.
-#[derive(Clone, Copy)]
+#[derive(Clone, Copy, PartialEq, Eq, Debug)]
 pub enum Form {
     Reserve,
     Release,
@@ -14,28 +13,18 @@ pub enum Form {
     Table,
 }
 
-fn same(word: &[u8], name: &[u8]) -> bool
-    ensures { result ≡ bytes_eq word.now name.now }
-{
-    word == name
-}
-
 impl Form {
+    // An Option: the error of a `TryFrom` would say nothing.
     pub(crate) fn of(word: &[u8]) -> Option<Form>
         ensures { result ≡ form_of word.now }
     {
-        if same(word, b"reserve") {
-            Some(Form::Reserve)
-        } else if same(word, b"release") {
-            Some(Form::Release)
-        } else if same(word, b"shut") {
-            Some(Form::Shut)
-        } else if same(word, b"reopen") {
-            Some(Form::Reopen)
-        } else if same(word, b"table") {
-            Some(Form::Table)
-        } else {
-            None
+        match word {
+            b"reserve" => Some(Form::Reserve),
+            b"release" => Some(Form::Release),
+            b"shut" => Some(Form::Shut),
+            b"reopen" => Some(Form::Reopen),
+            b"table" => Some(Form::Table),
+            _ => None,
         }
     }
 

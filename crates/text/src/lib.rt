@@ -15,4 +15,6 @@ pub mod number;
 mod numbers;
 pub mod parse;
 pub mod path;
+pub mod put;
 mod refuse;
+pub mod row;

@@ -1,22 +1,10 @@
-ghost use Rattle.std.specs.Prelude.{◌≡◌, ◌≤◌, length};
-ghost use Rattle.text.specs.Lines.{feed_after, lines_of, Sheet};
+ghost use Rattle.std.specs.Prelude.{◌≡◌};
+ghost use Rattle.text.specs.Lines.{lines_of, Sheet};
 ghost use Rattle.text.specs.Feed.{split_of, split_by, lines_by, lines_left, bytes_left, Feeds};
 ghost use Rattle.std.specs.Iterator.{at_most};
 
+use crate::bytes::bytes_before;
 use crate::feed::{FirstLine, Lines};
-
-// How many bytes stand before the first line feed.
-fn feed_after(text: &[u8]) -> usize
-    ensures within { result ≤ length text.now }
-    ensures value { result ≡ feed_after text.now }
-{
-    for (i, byte) in text.iter().enumerate() {
-        if *byte == b'\n' {
-            return i;
-        }
-    }
-    text.len()
-}
 
 // The first line of a text, if it has one.
 pub fn first_line<'a>(text: &'a [u8]) -> Option<FirstLine<'a>>
@@ -26,16 +14,12 @@ pub fn first_line<'a>(text: &'a [u8]) -> Option<FirstLine<'a>>
     if text.is_empty() {
         return None;
     }
-    let n = feed_after(text);
-    if n < text.len() {
-        return Some(FirstLine {
-            line: &text[0..n],
-            rest: &text[n + 1..],
-        });
-    }
+    let n = bytes_before(text, b'\n');
+    // The last line may lack its line feed.
+    let next = text.len().min(n + 1);
     Some(FirstLine {
-        line: text,
-        rest: &text[n..],
+        line: &text[0..n],
+        rest: &text[next..],
     })
 }
 
@@ -55,12 +39,8 @@ impl<'a> Iterator for Lines<'a> {
     ghost next_gives = { Feeds };
 
     fn next(&mut self) -> Option<&'a [u8]> {
-        match first_line(self.rest) {
-            Some(first) => {
-                self.rest = first.rest;
-                Some(first.line)
-            }
-            None => None,
-        }
+        let first = first_line(self.rest)?;
+        self.rest = first.rest;
+        Some(first.line)
     }
 }

@@ -11,23 +11,21 @@ fn digits_from(sum: u32, text: &[u8]) -> Option<u32>
     requires { sum ≤ most }
     ensures { result ≡ digits_from sum text.now }
 {
-    match text {
-        [] => Some(sum),
-        [first, rest @ ..] => match class_of(*first) {
-            Class::Digit => {
-                let next = sum * 10 + (*first - b'0') as u32;
-                if next > MOST {
-                    None
-                } else {
-                    digits_from(next, rest)
-                }
-            }
-            _ => None,
-        },
+    let [first, rest @ ..] = text else {
+        return Some(sum);
+    };
+    if class_of(*first) != Class::Digit {
+        return None;
     }
+    let next = sum * 10 + (*first - b'0') as u32;
+    if next > MOST {
+        return None;
+    }
+    digits_from(next, rest)
 }
 
 // The number that `text` spells: no zero in front but for 0 alone, and at most `MOST`.
+// By hand: the library's `parse` takes signs and zeros in front.
 fn spelled(text: &[u8]) -> Option<u32>
     ensures { result ≡ number_of text.now }
 {

@@ -20,17 +20,18 @@ fn form_of(first: Option<Field>) -> Result<Form, Refusal>
     ensures { result ≡ form_first first.entry }
 {
     let unknown = refuse(Reason::UnknownWord, 0);
-    match first {
-        Some(Field::Word(word, _)) => Form::of(word).ok_or(unknown),
-        _ => Err(unknown),
-    }
+    let Some(Field::Word(word, _)) = first else {
+        return Err(unknown);
+    };
+    Form::of(word).ok_or(unknown)
 }
 
+// A loop, as in the static library's `ports_of`: each fills a row by a conversion of its own.
 fn path_of(ports: &[Given]) -> Path
     requires { length ports.now ≤ most_ports }
     ensures { ports_of result ≡ map value_of ports.now }
 {
-    let mut path = Path::empty();
+    let mut path = Path::empty(0);
     for port in ports {
         path.push(port.value as usize);
     }

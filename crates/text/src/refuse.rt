@@ -8,9 +8,5 @@ use table::refusal::{Layer, Reason, Refusal};
 pub(crate) fn refuse(reason: Reason, place: usize) -> Refusal
     ensures { result ≡ refusal Sheet reason place }
 {
-    Refusal {
-        reason,
-        place,
-        layer: Layer::Sheet,
-    }
+    Refusal::new(Layer::Sheet, reason, place)
 }

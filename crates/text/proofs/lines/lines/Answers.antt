@@ -1,6 +1,5 @@
-use Rattle.std.proofs.Common.{refl}
 use Rattle.text.proofs.Ends.{sheet}
 use Rattle.text.proofs.lines.lines.Goals as goal
 
-pub returns : goal.returns
-returns c = record { all = refl; again = sheet c.args.text.now }
+pub returns-clause-again : goal.returns-clause-again
+returns-clause-again c = sheet c.args.text.now
