@@ -1,6 +1,6 @@
 -- One port's change, then the others'.
-use Rattle.std.proofs.Common.{◌≡◌, ℕ, ◌+◌, ◌<◌, ◌≤◌, List, [], length, get_or, drop, sym, ap, ◌∙◌, arith}
-use Rattle.std.proofs.lemmas.List.{drop_more, drop_all, get_or-set_same}
+use Rattle.std.proofs.Common.{◌≡◌, ℕ, ◌+◌, ◌<◌, List, length, get_or, drop, sym, ap, ◌∙◌, arith}
+use Rattle.std.proofs.lemmas.List.{drop_more}
 use Rattle.table.specs.declared.slot.Slot.{Slot}
 use Rattle.table.specs.Slots.{bits}
 use Rattle.bank.specs.declared.port.Port.{Port}
@@ -31,10 +31,3 @@ module _ (change : Ranks → Ranks) (path : List ℕ) (i : ℕ) where
   along_more n m s t ps qs more is =
       ap (changed_along change (drop (i + 1) path)) (changed_from change (get_or path i 0) n m s t ps qs is)
       ∙ sym (ap (λ (xs : List ℕ). changed_along change xs (changing n s ps)) (drop_more path i 0 more))
-
-  pub along_all : (c : Change) → length path ≤ i → changed_along change (drop i path) c ≡ c
-  along_all c all = ap (λ (xs : List ℕ). changed_along change xs c) (drop_all i path all)
-
--- the book that was put there
-pub book_after : (s t : State) (p : ℕ) (b : Ranks) → p < length s.books → t ≡ with_book s p b → book_at t.books p ≡ b
-book_after s t p b h is = ap (λ (x : State). book_at x.books p) is ∙ get_or-set_same s.books p b [] h

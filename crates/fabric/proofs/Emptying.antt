@@ -1,6 +1,6 @@
 -- Slots and ports emptied one after the other.
-use Rattle.std.proofs.Common.{◌≡◌, ℕ, ◌+◌, ◌<◌, ◌≤◌, true, List, [], ◌∷◌, ◌++◌, map, length, get_or, take, drop, set, replicate, sym, ap, ◌∙◌, subst, arith}
-use Rattle.std.proofs.lemmas.List.{append_assoc, append-nil, drop_more, drop_all, take_all, set_at, set-set, set-get_or, get_or_at, get_or-set_same, length-set, length-replicate, length-take-le, length-map, length-append, length-drop, replicate_more, map_more}
+use Rattle.std.proofs.Common.{◌≡◌, ℕ, ◌+◌, ◌<◌, true, List, [], ◌∷◌, ◌++◌, map, length, get_or, take, drop, set, replicate, sym, ap, ◌∙◌, subst, arith}
+use Rattle.std.proofs.lemmas.List.{append_assoc, append-nil, drop_more, drop_all, set_at, set-set, get_or_at, get_or-set_same, length-set, length-replicate, length-take-le, length-map, replicate_more, map_more}
 use Rattle.std.proofs.lemmas.Bool.{lt-ltb}
 use Rattle.table.specs.declared.slot.Slot.{Slot}
 use Rattle.table.specs.Slots.{slots, lane_count, empty_slot}
@@ -38,9 +38,6 @@ module _ (ps : List Port) (p : ℕ) (within : p < length ps) (opened : (port_at 
       write_again (replicate s empty_slot ++ drop s (port_at ps p).slots) s empty_slot below (omega arith)
       ∙ ap (with_slots ps p) (slot_more (port_at ps p).slots s (omega arith))
 
-pub empty_none : (ps : List Port) (p : ℕ) → ps ≡ with_slots ps p (port_at ps p).slots
-empty_none ps p = sym (set-get_or ps p no_port)
-
 pub empty_all : (ps : List Port) (p s : ℕ) → s ≡ slots → length (port_at ps p).slots ≡ slots → with_slots ps p (replicate s empty_slot ++ drop s (port_at ps p).slots) ≡ set ps p (emptied_port (port_at ps p))
 empty_all ps p s is long =
     ap (λ n. with_slots ps p (replicate n empty_slot ++ drop n (port_at ps p).slots)) is
@@ -61,9 +58,6 @@ module _ (ps : List Port) (p : ℕ) (within : p < length ps) where
   pub next_port : port_at (emptied_to p ps) p ≡ port_at ps p
   next_port = ap (λ z. get_or z p no_port) split ∙ get_or_at (map emptied_port (take p ps)) (get_or ps p no_port) (drop (p + 1) ps) no_port p front
 
-  pub emptied_length : length (emptied_to p ps) ≡ length ps
-  emptied_length = length-append (map emptied_port (take p ps)) (drop p ps) ∙ omega (arith, front, length-drop p ps)
-
   pub port_more : set (emptied_to p ps) p (emptied_port (port_at (emptied_to p ps) p)) ≡ emptied_to (p + 1) ps
   port_more =
       ap (λ (x : Port). set (emptied_to p ps) p (emptied_port x)) next_port
@@ -71,6 +65,3 @@ module _ (ps : List Port) (p : ℕ) (within : p < length ps) where
       ∙ set_at (map emptied_port (take p ps)) (get_or ps p no_port) (drop (p + 1) ps) (emptied_port (port_at ps p)) p front
       ∙ sym (append_assoc (map emptied_port (take p ps)) (emptied_port (port_at ps p) ∷ []) (drop (p + 1) ps))
       ∙ ap (λ z. z ++ drop (p + 1) ps) (sym (map_more emptied_port ps p no_port within))
-
-pub port_all : (ps : List Port) (p : ℕ) → length ps ≤ p → emptied_to p ps ≡ map emptied_port ps
-port_all ps p all = ap (λ z. map emptied_port (take p ps) ++ z) (drop_all p ps all) ∙ append-nil (map emptied_port (take p ps)) ∙ ap (map emptied_port) (take_all p ps all)

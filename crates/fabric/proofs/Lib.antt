@@ -1,13 +1,11 @@
 pub mod Scans
 pub mod Programs
-pub mod Ports
 pub mod Emptying
 pub mod Starts
 pub mod Books
 pub mod Along
 pub mod Paths
-pub mod Reserves
 pub mod Releases
-pub mod Waiting
 pub mod Seeks
 pub mod Picks
+pub mod Pickings

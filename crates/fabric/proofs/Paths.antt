@@ -37,6 +37,10 @@ pub then_ok : {A B : Type 0} (r : Result A Declined) (next : A → Result B Decl
 then_ok (Ok y) next x is = (y, refl, is)
 then_ok (Err e) next x is = let w : ◌≡◌ {A = ℕ} 0 1 = cc in absurd (omega arith)
 
+-- a number that is a session number
+pub numbered : (number n : ℕ) → Ok n ≡ and_then (ask_number number) (λ _. Ok number) → (Ok tt ≡ ask_number number) × (n ≡ number)
+numbered number n is = let yes = then_ok (ask_number number) (λ _. Ok number) n is in (yes.1, search yes.2)
+
 -- an admitted session has a path that was accepted
 pub admitted_path : (s : State) (ps : List Port) (number level weight : ℕ) (path : List ℕ) (a : Admission) → Ok a ≡ admitted s ps number level weight path
     → (length path ≤ most_hops) × ((k : ℕ) → k < length path → get_or path k 0 < length ps)

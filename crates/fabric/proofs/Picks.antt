@@ -1,15 +1,16 @@
 -- The turn of a port, by the slot that serves.
-use Rattle.std.proofs.Common.{◌≡◌, ℕ, ◌+◌, ◌-◌, ◌%◌, ◌<◌, min, Bool, true, false, ◌&&◌, ltb, List, length, get_or, set, Some, None, Ok, Option, sym, ap, ◌∙◌, add-zero}
+use Rattle.std.proofs.Common.{◌≡◌, ℕ, ◌+◌, ◌-◌, ◌%◌, ◌<◌, min, Bool, true, false, ◌&&◌, ltb, List, length, get_or, set, Some, None, Option, ⊎_elim, sym, ap, ◌∙◌, add-zero}
 use native.Mathlib.Nat.{mod-add-mod}
-use Rattle.std.proofs.lemmas.List.{set-get_or}
-use Rattle.std.proofs.lemmas.Bool.{cond-true, cond-false}
+use Rattle.std.proofs.lemmas.Bool.{cond-true, cond-false, cases_lt}
+use Rattle.std.proofs.lemmas.List.{get_or_past}
 use Rattle.table.specs.declared.slot.Slot.{Slot}
 use Rattle.table.specs.Slots.{slots, empty_slot}
+use Rattle.bank.specs.declared.port.Port.{Port}
+use Rattle.bank.specs.Ports.{BankFits, port_at, no_port}
 use Rattle.lanes.specs.Queues.{queue, rest}
 use Rattle.fabric.specs.declared.fabric.Pointer.{Pointer}
 use Rattle.fabric.specs.declared.picked.Picked.TheVariants.{Sent, Idle}
-use Rattle.fabric.specs.States.{State}
-use Rattle.fabric.specs.Picking.{cost, Turn, slot_on, some, first, ready, usable, stays, sent, seek, turn, pointer_at, with_pointer, Picking, picking}
+use Rattle.fabric.specs.Picking.{cost, Turn, slot_on, some, first, ready, usable, stays, sent, seek, turning, turn}
 use Rattle.fabric.proofs.Seeks.{SeekLeft, seek_stop, seek_go, seek_through}
 
 -- a credit is left, and a packet waits in the lane
@@ -24,16 +25,19 @@ sent_at qs place d x credit = record {
   queues = set qs x.lane (rest (queue qs x.lane));
 }
 
--- what a turn answers and leaves at port p
-abbrev pub turned : State → ℕ → Turn → Picking
-turned s p t = picking (Ok t.answer) (with_pointer s p t.pointer) t.queues
-
 -- places go round
 pub place_round : (table : List Slot) (k d : ℕ) → length table ≡ slots → (k % slots + d) % slots ≡ (k + d) % length table
 place_round table k d long = mod-add-mod k slots d ∙ ap (λ n. (k + d) % n) (sym long)
 
 pub slot_round : (table : List Slot) (k d : ℕ) → length table ≡ slots → slot_on table (k % slots + d) ≡ slot_on table (k + d)
 slot_round table k d long = ap (λ n. get_or table n empty_slot) (ap (λ n. (k % slots + d) % n) long ∙ place_round table k d long)
+
+-- the same at any port of a bank, also one that is not there
+pub port_round : (ps : List Port) (fits : BankFits ps) (p k d : ℕ) → slot_on (port_at ps p).slots (k % slots + d) ≡ slot_on (port_at ps p).slots (k + d)
+port_round ps fits p k d = ⊎_elim
+    (λ lt. slot_round (port_at ps p).slots k d (fits.long p lt))
+    (λ ge. let none : port_at ps p ≡ no_port = get_or_past ps p no_port ge in ap (λ (x : Port). slot_on x.slots (k % slots + d)) none ∙ sym (ap (λ (x : Port). slot_on x.slots (k + d)) none))
+    (cases_lt p (length ps))
 
 module _ (table : List Slot) (at : Pointer) (qs : List (List ℕ)) where
   -- the slot d places on, with how far that is
@@ -44,17 +48,17 @@ module _ (table : List Slot) (at : Pointer) (qs : List (List ℕ)) where
   abbrev pub ReadyLeft : ℕ → Type 0
   ReadyLeft d = SeekLeft (ready table at qs) step None slots d
 
-  pub ready_stop : (d : ℕ) (x : Slot) → length table ≡ slots → d < slots + 1 → x ≡ slot_on table (at.slot % slots + d) → true ≡ can_send qs x.weight x.lane → ReadyLeft d
+  pub ready_stop : (d : ℕ) (x : Slot) → slot_on table (at.slot % slots + d) ≡ slot_on table (at.slot + d) → d < slots + 1 → x ≡ slot_on table (at.slot % slots + d) → true ≡ can_send qs x.weight x.lane → ReadyLeft d
       → Some (d, x) ≡ seek (ready table at qs) step None 1 slots
-  ready_stop d x long more is yes? was =
-      let here : x ≡ slot_on table (at.slot + d) = is ∙ slot_round table at.slot d long in
+  ready_stop d x round more is yes? was =
+      let here : x ≡ slot_on table (at.slot + d) = is ∙ round in
       ap (λ (y : Slot). Some (d, y)) here
       ∙ seek_stop (ready table at qs) step None slots d more (ap (λ (y : Slot). can_send qs y.weight y.lane) (sym here) ∙ sym yes?) was
 
-  pub ready_go : (d : ℕ) (x : Slot) → length table ≡ slots → d < slots + 1 → x ≡ slot_on table (at.slot % slots + d) → false ≡ can_send qs x.weight x.lane → ReadyLeft d
+  pub ready_go : (d : ℕ) (x : Slot) → slot_on table (at.slot % slots + d) ≡ slot_on table (at.slot + d) → d < slots + 1 → x ≡ slot_on table (at.slot % slots + d) → false ≡ can_send qs x.weight x.lane → ReadyLeft d
       → ReadyLeft (d + 1)
-  ready_go d x long more is no? was =
-      let here : x ≡ slot_on table (at.slot + d) = is ∙ slot_round table at.slot d long in
+  ready_go d x round more is no? was =
+      let here : x ≡ slot_on table (at.slot + d) = is ∙ round in
       seek_go (ready table at qs) step None slots d more (ap (λ (y : Slot). can_send qs y.weight y.lane) (sym here) ∙ sym no?) was
 
   -- the turn by what was found behind the pointer's slot
@@ -101,15 +105,11 @@ module _ (table : List Slot) (at : Pointer) (qs : List (List ℕ)) where
   none_sends u x long is least no? found = turn_go None long (sym (no? ∙ own u x is least)) found
 
 -- a packet that was sent, by its parts
-pub sent_turned : (s t : State) (p : ℕ) (qs rs : List (List ℕ)) (bytes place d credit : ℕ) (x : Slot) (done : Turn) → bytes ≡ first (queue qs x.lane)
-    → t ≡ with_pointer s p (record { slot = place; credit = credit - cost (first (queue qs x.lane)) }) → rs ≡ set qs x.lane (rest (queue qs x.lane))
-    → sent_at qs place d x credit ≡ done → picking (Ok (Sent x.lane bytes d)) t rs ≡ turned s p done
-sent_turned s t p qs rs bytes place d credit x done length-is state_is rest-is is =
-    (λ i. picking (Ok (Sent x.lane (length-is i) d)) (state_is i) (rest-is i)) ∙ ap (turned s p) is
+pub sent_turn : (qs rs : List (List ℕ)) (bytes place d credit : ℕ) (x : Slot) (to : Pointer) (done : Turn) → bytes ≡ first (queue qs x.lane)
+    → to ≡ record { slot = place; credit = credit - cost (first (queue qs x.lane)) } → rs ≡ set qs x.lane (rest (queue qs x.lane))
+    → sent_at qs place d x credit ≡ done → turning (Sent x.lane bytes d) to rs ≡ done
+sent_turn qs rs bytes place d credit x to done length-is moved rest-is is = (λ i. turning (Sent x.lane (length-is i) d) (moved i) (rest-is i)) ∙ is
 
 -- an idle port stays
-pub idle_turned : (s : State) (p : ℕ) (qs : List (List ℕ)) (table : List Slot) (done : Turn) → length table ≡ slots → serve table (pointer_at s.pointers p) qs None ≡ done
-    → picking (Ok (Idle slots)) s qs ≡ turned s p done
-idle_turned s p qs table done long is =
-    (λ i. picking (Ok (Idle (sym long i))) (record { started = s.started; books = s.books; pointers = sym (set-get_or s.pointers p (record { slot = 0; credit = 0 })) i }) qs)
-    ∙ ap (turned s p) is
+pub idle_turn : (at : Pointer) (qs : List (List ℕ)) (table : List Slot) (done : Turn) → length table ≡ slots → serve table at qs None ≡ done → turning (Idle slots) at qs ≡ done
+idle_turn at qs table done long is = (λ i. turning (Idle (sym long i)) at qs) ∙ is

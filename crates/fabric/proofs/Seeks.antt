@@ -1,5 +1,5 @@
 -- Seeking the first place that passes a test: the steps of a loop that seeks, and what was found.
-use Rattle.std.proofs.Common.{◌≡◌, ℕ, zero, suc, ◌+◌, ◌-◌, ◌<◌, ◌≤◌, Bool, true, false, cond, Some, None, Option, sym, refl, ap, ◌∙◌, arith}
+use Rattle.std.proofs.Common.{◌≡◌, ℕ, zero, suc, ◌+◌, ◌-◌, ◌<◌, Bool, true, false, cond, Some, None, Option, sym, refl, ap, ◌∙◌, arith}
 use Rattle.std.proofs.lemmas.Bool.{cond-true, cond-false}
 use Rattle.fabric.specs.Picking.{seek}
 
@@ -25,9 +25,6 @@ module _ {X : Type 0} (test : ℕ → Bool) (found : ℕ → X) (none : X) where
 
   pub seek_go : (n d : ℕ) → d < n + 1 → test d ≡ false → SeekLeft n d → SeekLeft n (d + 1)
   seek_go n d more no? was = was ∙ pass d (n + 1 - d) (n + 1 - (d + 1)) (omega arith) no?
-
-  pub seek_end : (n d : ℕ) → n + 1 ≤ d → SeekLeft n d → none ≡ seek test found none 1 n
-  seek_end n d all was = sym (was ∙ ap (seek test found none d) {y = 0} (omega arith))
 
   -- a function of what was found
   pub seek_through : {Y : Type 0} (f : X → Y) (j k : ℕ) → f (seek test found none j k) ≡ seek test (λ d. f (found d)) (f none) j k

@@ -1,10 +1,11 @@
 -- A change of books along a path, and the slots that it writes.
-use Rattle.std.specs.Prelude.{ℕ, ◌+◌, cond, List, [], ◌∷◌}
+use Rattle.std.specs.Prelude.{◌≡◌, ℕ, ◌+◌, ◌≤◌, cond, List, [], ◌∷◌}
 use Rattle.table.specs.declared.slot.Slot.{Slot}
-use Rattle.table.specs.Slots.{bits, same_slot}
+use Rattle.table.specs.Slots.{bits, slots, same_slot}
 use Rattle.bank.specs.declared.port.Port.{Port}
 use Rattle.bank.specs.Ports.{write_after}
 use Rattle.book.specs.Books.{Ranks, contents, changed_slots}
+use Rattle.fabric.specs.declared.fabric.PortState.{PortState}
 use Rattle.fabric.specs.States.{State, book_at, with_book}
 
 -- the slots of port p from slot s on whose content differs are written, the others are not
@@ -12,6 +13,13 @@ abbrev pub programmed : ℕ → ℕ → List Slot → List Slot → List Port �
 programmed p s [] news ps = ps
 programmed p s (old ∷ olds) [] ps = ps
 programmed p s (old ∷ olds) (new ∷ news) ps = programmed p (s + 1) olds news (cond (same_slot old new) ps (write_after ps p s new))
+
+-- what port p holds changed but for its pointer, and just the n slots whose content by the books changed were written
+pub record IsWritten (p n : ℕ) (was new : PortState) (before after : List Port) : Type 0 where
+  pub pointer : new.pointer ≡ was.pointer
+  pub count : n ≡ changed_slots (contents bits was.book.ranks) (contents bits new.book.ranks)
+  pub most : n ≤ slots
+  pub written : after ≡ programmed p 0 (contents bits was.book.ranks) (contents bits new.book.ranks) before
 
 -- a change under way: how many slots it changed so far, the fabric, and the ports of the bank
 pub record Change : Type 0 where

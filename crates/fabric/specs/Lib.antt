@@ -2,7 +2,6 @@ pub mod Declines
 pub mod States
 pub mod Questions
 pub mod Changes
-pub mod BookChanges
 pub mod Starting
 pub mod Reserving
 pub mod Releasing

@@ -26,6 +26,10 @@ pub record Turn : Type 0 where
   pub pointer : Pointer
   pub queues : List (List ℕ)
 
+-- the same by its parts
+abbrev pub turning : Picked → Pointer → List (List ℕ) → Turn
+turning answer pointer qs = record { answer = answer; pointer = pointer; queues = qs }
+
 -- the slot at a place, round and round the table
 abbrev pub slot_on : List Slot → ℕ → Slot
 slot_on table k = slice_index_or table (k % length table) empty_slot

@@ -6,6 +6,7 @@ use Rattle.book.specs.Books.{Ranks}
 use Rattle.fabric.specs.declared.declined.Declined.{Declined}
 use Rattle.fabric.specs.declared.fabric.Fabric.{Fabric}
 use Rattle.fabric.specs.declared.fabric.Pointer.{Pointer}
+use Rattle.fabric.specs.declared.fabric.PortState.{PortState}
 
 -- the port count that it was started with, the entries of each book, and each port's pointer
 pub record State : Type 0 where
@@ -16,8 +17,21 @@ pub record State : Type 0 where
 abbrev pub entries : Book → Ranks
 entries b = b.ranks
 
+-- the entries of a port's book
+abbrev pub ranks_of : PortState → Ranks
+ranks_of p = entries p.book
+
+-- a port's pointer
+abbrev pub pointer_of : PortState → Pointer
+pointer_of p = p.pointer
+
+-- the state by the ports that are kept
+abbrev pub state_of : Option ℕ → List PortState → State
+state_of started ports = record { started = started; books = map ranks_of ports; pointers = map pointer_of ports }
+
+-- what a fabric means
 abbrev pub meaning : Fabric → State
-meaning f = record { started = f.started; books = map entries f.books; pointers = f.pointers }
+meaning f = state_of f.started f.ports
 
 -- the book of port p
 abbrev pub book_at : List Ranks → ℕ → Ranks

@@ -1,7 +1,6 @@
 // The fabric: one book and one pointer for each port of a bank, and the calls that planners make.
 #![tactic(auto)]
 
-mod book_change;
 mod changing;
 pub mod declined;
 pub mod fabric;

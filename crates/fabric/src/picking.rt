@@ -1,19 +1,17 @@
 // Picking the packet that a port sends next.
-ghost use Rattle.std.specs.Prelude.{◌≡◌, ◌+◌, ◌-◌, ◌<◌, ◌≤◌, ◌&&◌, length, Some, None, Ok, nat_lt, slice_set};
+ghost use Rattle.std.specs.Prelude.{◌≡◌, ◌+◌, ◌-◌, ◌<◌, ◌≤◌, ◌&&◌, length, Some, None, nat_lt, slice_set};
 ghost use Rattle.table.specs.Slots.{slots};
-ghost use Rattle.bank.specs.Ports.{port_at, most_ports};
+ghost use Rattle.bank.specs.Ports.{port_at};
 ghost use Rattle.lanes.specs.Queues.{most_bytes, queue, rest};
 ghost use Rattle.fabric.specs.States.{meaning};
-ghost use Rattle.fabric.specs.Picking.{cost, slot_on, some, first, ready, seek, with_pointer, pick_answer, picking, if_picked, pick_call};
+ghost use Rattle.fabric.specs.Picking.{cost, turning, slot_on, some, first, ready, seek, turn, pick_answer, picking, pick_call};
 
-use crate::declined::{Declined, by_bank};
+use crate::declined::{Declined, port_shut};
 use crate::fabric::{Fabric, Pointer};
 use crate::picked::Picked;
-use crate::questions::is_open;
 use bank::bank::Bank;
 use lanes::lanes::Lanes;
 use table::rank::SLOTS;
-use table::refusal::Reason;
 use table::slot::Slot;
 
 // A unit of credit carries so many bytes.
@@ -24,29 +22,21 @@ fn cost_of(bytes: u16) -> u8
     requires { bytes ≤ most_bytes }
     ensures { result ≡ cost bytes }
 {
-    ((bytes + UNIT - 1) / UNIT) as u8
+    bytes.div_ceil(UNIT) as u8
 }
 
 // The slot at a place of a port's table, round and round.
 fn slot_on<B: Bank>(bank: &B, port: usize, place: usize) -> Slot
-    requires { port < length (B.ports bank.now) }
     ensures { result ≡ slot_on (port_at (B.ports bank.now) port).slots place }
 {
-    match bank.slot(port, place % SLOTS) {
-        Ok(slot) => slot,
-        Err(_) => Slot::empty(),
-    }
+    bank.slot(port, place % SLOTS).unwrap_or(Slot::empty())
 }
 
 // Whether a packet waits in a lane.
 fn has_packet<L: Lanes>(lanes: &L, lane: u8) -> bool
     ensures { result ≡ some (queue (L.queues lanes.now) lane) }
 {
-    match lanes.first(lane) {
-        Ok(Some(_)) => true,
-        Ok(None) => false,
-        Err(_) => false,
-    }
+    matches!(lanes.first(lane), Ok(Some(_)))
 }
 
 // Whether a credit is left and a packet waits in the lane.
@@ -62,41 +52,39 @@ fn take_first<L: Lanes>(lanes: &mut L, lane: u8) -> u16
     ensures most { result ≤ most_bytes }
     ensures after { L.queues lanes.new ≡ slice_set (L.queues lanes.old) lane (rest (queue (L.queues lanes.old) lane)) }
 {
-    match lanes.take(lane) {
-        Ok(bytes) => bytes,
-        Err(_) => 0,
-    }
+    // 0 and no Option: it is asked where a packet waits, and 0 is what its definition says of none.
+    lanes.take(lane).unwrap_or(0)
 }
 
 // The first of the slots behind the pointer, its own last, that has a weight and a packet: how many places on it is, and the slot.
+// The two are found together and taken apart in the next line, so they are a pair and no struct.
 fn next_ready<B: Bank, L: Lanes>(
     bank: &B,
     lanes: &L,
     port: usize,
     at: Pointer,
 ) -> Option<(usize, Slot)>
-    requires { port < length (B.ports bank.now) }
     ensures { result ≡ seek (ready (port_at (B.ports bank.now) port).slots at (L.queues lanes.now)) (λ d. Some (d, slot_on (port_at (B.ports bank.now) port).slots (at.slot + d))) None 1 slots }
 {
-    for d in 1..SLOTS + 1 {
-        let slot = slot_on(bank, port, at.slot % SLOTS + d);
+    // A loop; tried as `map` and `find`, which is proved: a pick that finds no packet took 1.3 times as long.
+    for passed in 1..SLOTS + 1 {
+        let slot = slot_on(bank, port, at.slot % SLOTS + passed);
         if can_send(lanes, slot.weight, slot.lane) {
-            return Some((d, slot));
+            return Some((passed, slot));
         }
     }
     None
 }
 
-impl Fabric {
-    // The first packet of a lane is taken. The pointer of the port moves to a slot, with what the packet leaves of the credit.
-    fn send<L: Lanes>(&mut self, lanes: &mut L, port: usize, lane: u8, to: Pointer) -> u16
-        requires { port < most_ports }
+impl Pointer {
+    // The first packet of a lane is taken, and the pointer moves to a slot, with what the packet leaves of the credit. Answers the packet's length.
+    fn send<L: Lanes>(&mut self, lanes: &mut L, lane: u8, to: Pointer) -> u16
         ensures length { result ≡ first (queue (L.queues lanes.old) lane) }
-        ensures state { meaning self.new ≡ with_pointer (meaning self.old) port (record { slot = to.slot; credit = to.credit - cost (first (queue (L.queues lanes.old) lane)) }) }
+        ensures moved { self.new ≡ record { slot = to.slot; credit = to.credit - cost (first (queue (L.queues lanes.old) lane)) } }
         ensures after { L.queues lanes.new ≡ slice_set (L.queues lanes.old) lane (rest (queue (L.queues lanes.old) lane)) }
     {
         let length = take_first(lanes, lane);
-        self.pointers[port] = Pointer {
+        *self = Pointer {
             slot: to.slot,
             credit: to.credit.saturating_sub(cost_of(length)),
         };
@@ -106,9 +94,9 @@ impl Fabric {
     // The turn of a port: the packet that it sends next, if a slot serves.
     fn turn<B: Bank, L: Lanes>(&mut self, bank: &B, lanes: &mut L, port: usize) -> Picked
         requires { port < length (B.ports bank.now) }
-        ensures { picking (Ok result) (meaning self.new) (L.queues lanes.new) ≡ if_picked (Ok tt) (meaning self.old) (B.ports bank.now) (L.queues lanes.old) port }
+        ensures { turning result self.new (L.queues lanes.new) ≡ turn (port_at (B.ports bank.now) port).slots self.old (L.queues lanes.old) }
     {
-        let at = self.pointers[port];
+        let at = *self;
         let own = slot_on(bank, port, at.slot);
         let usable = at.credit.min(own.weight);
         if can_send(lanes, usable, own.lane) {
@@ -116,7 +104,7 @@ impl Fabric {
                 slot: at.slot % SLOTS,
                 credit: usable,
             };
-            let length = self.send(lanes, port, own.lane, to);
+            let length = self.send(lanes, own.lane, to);
             return Picked::Sent {
                 lane: own.lane,
                 length,
@@ -129,7 +117,7 @@ impl Fabric {
                     slot: (at.slot % SLOTS + passed) % SLOTS,
                     credit: slot.weight,
                 };
-                let length = self.send(lanes, port, slot.lane, to);
+                let length = self.send(lanes, slot.lane, to);
                 Picked::Sent {
                     lane: slot.lane,
                     length,
@@ -139,17 +127,16 @@ impl Fabric {
             None => Picked::Idle { passed: SLOTS },
         }
     }
+}
 
+impl Fabric {
     // The questions of a pick, in their order.
     fn ask_pick<B: Bank>(&self, bank: &B, port: usize) -> Result<(), Declined>
         ensures { result ≡ pick_answer (meaning self.now) (B.ports bank.now) port }
     {
         self.ask_started(bank)?;
-        if port >= bank.count() {
-            return Err(by_bank(Reason::NoSuchPort, 0));
-        }
-        if !is_open(bank, port) {
-            return Err(by_bank(Reason::PortShut, 0));
+        if !bank.is_open(port)? {
+            return Err(port_shut(0));
         }
         Ok(())
     }
@@ -164,6 +151,6 @@ impl Fabric {
         ensures meets { picking result (meaning self.new) (L.queues lanes.new) ≡ pick_call (meaning self.old) (B.ports bank.now) (L.queues lanes.old) port }
     {
         self.ask_pick(bank, port)?;
-        Ok(self.turn(bank, lanes, port))
+        Ok(self.ports[port].pointer.turn(bank, lanes, port))
     }
 }

@@ -1,79 +1,78 @@
 // The questions that calls ask, each a function that declines where its answer is no.
-ghost use Rattle.std.specs.Prelude.{◌≡◌, ℕ, ◌<◌, ◌≤◌, length, slice_index};
-ghost use Rattle.fabric.specs.Reserving.{ask_number, hop_fits, ask_hops, ask_path, ask_open, among, or_declined};
+ghost use Rattle.std.specs.Prelude.{◌≡◌, ℕ, Bool, ◌&&◌, not, Some, Ok, nat_lt, slice_get};
+ghost use Rattle.fabric.specs.declared.declined.Declined.{Declined};
+ghost use Rattle.fabric.specs.Questions.{Answers, Declines, ask_each, and_then};
+ghost use Rattle.fabric.specs.Reserving.{ask_number, ask_hops, ask_path, ask_open, among, or_declined};
 ghost use Rattle.table.specs.Services.{service_for};
 ghost use Rattle.bank.specs.Ports.{port_at};
 
-use crate::declined::{Declined, by_bank, by_fabric};
+use crate::declined::{Declined, by_fabric, port_shut};
 use bank::bank::Bank;
 use book::session::Session;
 use table::refusal::Reason;
 use table::service::Service;
 
-// A session number is 1 to so many.
-const MOST_NUMBER: u32 = 65535;
-
 // A path has 1 to so many hops.
 pub(crate) const MOST_HOPS: usize = 8;
 
 // Is it a session number?
-pub(crate) fn ask_number(number: u32) -> Result<(), Declined>
-    ensures { result ≡ ask_number number }
+pub(crate) fn ask_number(number: u32) -> Result<u16, Declined>
+    ensures { result ≡ and_then (ask_number number) (λ _. Ok number) }
 {
-    if number < 1 || number > MOST_NUMBER {
-        return Err(by_fabric(Reason::BadNumber, 0));
+    match u16::try_from(number) {
+        Ok(number) if number > 0 => Ok(number),
+        _ => Err(by_fabric(Reason::BadNumber, 0)),
     }
-    Ok(())
 }
 
 // Can the level and the weight be served?
 pub(crate) fn ask_service(level: u32, weight: u32) -> Result<Service, Declined>
     ensures { result ≡ or_declined (service_for level weight) }
 {
-    match Service::asked(level, weight) {
-        Ok(service) => Ok(service),
-        Err(reason) => Err(by_fabric(reason, 0)),
-    }
+    Service::asked(level, weight).map_err(|reason| by_fabric(reason, 0))
 }
 
-// Whether a port is listed.
-fn is_among(port: usize, listed: &[usize]) -> bool
-    ensures { result ≡ among port listed.now }
+// Whether a port is below the count and not listed before.
+fn hop_fits(count: usize, port: usize, before: &[usize]) -> bool
+    ensures { result ≡ (nat_lt port count && not (among port before.now)) }
 {
-    for other in listed {
-        if port == *other {
-            return true;
+    port < count && !before.contains(&port)
+}
+
+// The same question at each of a list: the first place with the answer no declines.
+pub(crate) fn ask_each<T, Q: Fn(usize, &T) -> bool, D: Fn(usize) -> Declined>(
+    list: &[T],
+    question: Q,
+    declined: D,
+) -> Result<(), Declined>
+    requires asked { (place : ℕ) (x : _) → slice_get list.now place ≡ Some x.now → Q.pre question place x }
+    requires declines { D.IsAlwaysCallable declined }
+    ensures { (test : ℕ → T → Bool) (decline : ℕ → Declined) → Answers (Q.post question) test list.now → Declines (D.post declined) decline → result ≡ ask_each test decline 0 list.now }
+{
+    for (place, item) in list.iter().enumerate() {
+        if !question(place, item) {
+            return Err(declined(place));
         }
     }
-    false
-}
-
-// Whether the port at a hop is below the count and not listed before.
-fn hop_fits(count: usize, path: &[usize], hop: usize) -> bool
-    requires { hop < length path.now }
-    ensures { result ≡ hop_fits count path.now hop (slice_index path.now hop) }
-{
-    let port = path[hop];
-    port < count && !is_among(port, &path[0..hop])
+    Ok(())
 }
 
 // Does every hop fit?
 fn ask_hops(count: usize, path: &[usize]) -> Result<(), Declined>
     ensures { result ≡ ask_hops count path.now }
 {
-    for hop in 0..path.len() {
-        if !hop_fits(count, path, hop) {
-            return Err(by_fabric(Reason::BadPath, hop));
-        }
-    }
-    Ok(())
+    ask_each(
+        path,
+        |hop, port| hop_fits(count, *port, &path[..hop]),
+        |hop| by_fabric(Reason::BadPath, hop),
+    )
 }
 
 // Has the path 1 to 8 ports, each below the count and none listed before?
 pub(crate) fn ask_path(count: usize, path: &[usize]) -> Result<(), Declined>
     ensures { result ≡ ask_path count path.now }
 {
-    if path.len() < 1 {
+    if path.is_empty() {
         return Err(by_fabric(Reason::BadPath, 0));
     }
     if path.len() > MOST_HOPS {
@@ -86,22 +85,14 @@ pub(crate) fn ask_path(count: usize, path: &[usize]) -> Result<(), Declined>
 pub(crate) fn is_open<B: Bank>(bank: &B, port: usize) -> bool
     ensures { result ≡ (port_at (B.ports bank.now) port).«open» }
 {
-    match bank.is_open(port) {
-        Ok(open) => open,
-        Err(_) => false,
-    }
+    bank.is_open(port).unwrap_or(false)
 }
 
 // Is every port on the path open?
 pub(crate) fn ask_open<B: Bank>(bank: &B, path: &[usize]) -> Result<(), Declined>
     ensures { result ≡ ask_open (B.ports bank.now) path.now }
 {
-    for (hop, port) in path.iter().enumerate() {
-        if !is_open(bank, *port) {
-            return Err(by_bank(Reason::PortShut, hop));
-        }
-    }
-    Ok(())
+    ask_each(path, |_, port| is_open(bank, *port), port_shut)
 }
 
 // A session that may enter the books, with what it is given.

@@ -1,18 +1,16 @@
 // Reserving a session along a path of ports.
-ghost use Rattle.std.specs.Prelude.{◌≡◌, ℕ, ◌+◌, ◌*◌, ◌<◌, ◌≤◌, map, length, nat_le, slice_index};
+ghost use Rattle.std.specs.Prelude.{◌≡◌, ℕ, ◌<◌, ◌≤◌, length, nat_le, slice_index};
 ghost use Rattle.table.specs.Slots.{bits, lane_count};
 ghost use Rattle.bank.specs.Ports.{most_ports};
 ghost use Rattle.book.specs.Books.{filled, free_ranks};
-ghost use Rattle.fabric.specs.States.{entries, meaning, book_at, outcome};
+ghost use Rattle.fabric.specs.States.{meaning, book_at, outcome};
 ghost use Rattle.fabric.specs.Changes.{changing, changed_along};
-ghost use Rattle.fabric.specs.Reserving.{is_live, lane_of, most_number, most_hops, ask_started, ask_new, ask_room, admitted, entered, reserve_call};
+ghost use Rattle.fabric.specs.Reserving.{is_live, lane_of, most_hops, ask_started, ask_new, ask_room, admitted, reserve_call};
 
-use crate::book_change::BookChange;
 use crate::declined::{Declined, by_fabric};
 use crate::fabric::Fabric;
-use crate::questions::{Admission, ask_number, ask_open, ask_path, ask_service};
+use crate::questions::{Admission, ask_each, ask_number, ask_open, ask_path, ask_service};
 use bank::bank::Bank;
-use book::book::Book;
 use book::session::Session;
 use table::refusal::Reason;
 
@@ -21,19 +19,8 @@ fn lane_of(level: u32) -> u8
     requires { level < lane_count }
     ensures { result ≡ lane_of level }
 {
+    // A cast: the level was asked, and `try_from` would add an error that cannot come. So too of size and weight below.
     level as u8
-}
-
-// Whether one of the books has the session.
-fn some_holds(books: &[Book], number: u16) -> bool
-    ensures { result ≡ is_live number (map entries books.now) }
-{
-    for book in books {
-        if book.holds(number) {
-            return true;
-        }
-    }
-    false
 }
 
 impl Fabric {
@@ -41,17 +28,27 @@ impl Fabric {
     pub(crate) fn ask_started<B: Bank>(&self, bank: &B) -> Result<(), Declined>
         ensures { result ≡ ask_started (meaning self.now) (B.ports bank.now) }
     {
-        match self.started {
-            Some(count) if count == bank.count() => Ok(()),
-            _ => Err(by_fabric(Reason::NotStarted, 0)),
+        if self.started != Some(bank.count()) {
+            return Err(by_fabric(Reason::NotStarted, 0));
         }
+        Ok(())
     }
 
     // Whether some book has the session.
     pub(crate) fn is_live(&self, number: u16) -> bool
         ensures { result ≡ is_live number (meaning self.now).books }
     {
-        some_holds(&self.books, number)
+        self.ports.iter().any(|port| port.book.holds(number))
+    }
+
+    // Is the number not live?
+    fn ask_new(&self, number: u16) -> Result<(), Declined>
+        ensures { result ≡ ask_new number (meaning self.now).books }
+    {
+        if self.is_live(number) {
+            return Err(by_fabric(Reason::AlreadyLive, 0));
+        }
+        Ok(())
     }
 
     // Whether the book of a port has so many free ranks.
@@ -59,18 +56,7 @@ impl Fabric {
         requires { port < most_ports }
         ensures { result ≡ nat_le need (free_ranks bits (book_at (meaning self.now).books port)) }
     {
-        self.books[port].has_room(need)
-    }
-
-    // Is the number not live?
-    fn ask_new(&self, number: u32) -> Result<(), Declined>
-        requires { number ≤ most_number }
-        ensures { result ≡ ask_new number (meaning self.now).books }
-    {
-        if self.is_live(number as u16) {
-            return Err(by_fabric(Reason::AlreadyLive, 0));
-        }
-        Ok(())
+        self.ports[port].book.has_room(need)
     }
 
     // Has every port on the path so many free ranks?
@@ -78,15 +64,15 @@ impl Fabric {
         requires { (k : ℕ) → k < length path.now → slice_index path.now k < most_ports }
         ensures { result ≡ ask_room need (meaning self.now).books path.now }
     {
-        for hop in 0..path.len() {
-            if !self.room_at(path[hop], need) {
-                return Err(by_fabric(Reason::NoRoom, hop));
-            }
-        }
-        Ok(())
+        ask_each(
+            path,
+            |_, port| self.room_at(*port, need),
+            |hop| by_fabric(Reason::NoRoom, hop),
+        )
     }
 
     // The questions of a reserve, in their order; where all are answered yes, what enters the books.
+    // Number, level, weight and path as the public call has them: this function alone would take them as a struct.
     fn admit<B: Bank>(
         &self,
         bank: &B,
@@ -98,14 +84,14 @@ impl Fabric {
         ensures { result ≡ admitted (meaning self.now) (B.ports bank.now) number level weight path.now }
     {
         self.ask_started(bank)?;
-        ask_number(number)?;
+        let number = ask_number(number)?;
         let service = ask_service(level, weight)?;
         ask_path(bank.count(), path)?;
         ask_open(bank, path)?;
         self.ask_new(number)?;
         self.ask_room(service.size, path)?;
         let session = Session {
-            number: number as u16,
+            number,
             lane: lane_of(level),
             size: service.size as u8,
             weight: weight as u16,
@@ -120,8 +106,8 @@ impl Fabric {
         ensures { changing result (meaning self.new) (B.ports bank.new) ≡ changed_along (λ b. filled bits b session) path.now (changing 0 (meaning self.old) (B.ports bank.old)) }
     {
         let mut slots = 0;
-        for hop in 0..path.len() {
-            slots += self.change_at(bank, path[hop], BookChange::FillIn(session));
+        for port in path {
+            slots += self.ports[*port].fill_in(bank, *port, session);
         }
         slots
     }

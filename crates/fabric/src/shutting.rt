@@ -1,9 +1,9 @@
-// Shutting and reopening a port of the bank.
+// Shutting and reopening a port of the bank: two calls that differ in the bank's, and in two lines not worth a third function.
 ghost use Rattle.std.specs.Prelude.{◌≡◌};
 ghost use Rattle.fabric.specs.States.{meaning, outcome};
 ghost use Rattle.fabric.specs.Shutting.{shut_call, reopen_call};
 
-use crate::declined::{Declined, handed_on};
+use crate::declined::Declined;
 use crate::fabric::Fabric;
 use bank::bank::Bank;
 
@@ -12,19 +12,15 @@ impl Fabric {
     pub fn shut<B: Bank>(&mut self, bank: &mut B, port: usize) -> Result<(), Declined>
         ensures meets { outcome result (meaning self.new) (B.ports bank.new) ≡ shut_call (meaning self.old) (B.ports bank.old) port }
     {
-        match bank.shut(port) {
-            Ok(()) => Ok(()),
-            Err(refusal) => Err(handed_on(refusal)),
-        }
+        bank.shut(port)?;
+        Ok(())
     }
 
     // Reopens a port.
     pub fn reopen<B: Bank>(&mut self, bank: &mut B, port: usize) -> Result<(), Declined>
         ensures meets { outcome result (meaning self.new) (B.ports bank.new) ≡ reopen_call (meaning self.old) (B.ports bank.old) port }
     {
-        match bank.reopen(port) {
-            Ok(()) => Ok(()),
-            Err(refusal) => Err(handed_on(refusal)),
-        }
+        bank.reopen(port)?;
+        Ok(())
     }
 }

@@ -1,30 +1,21 @@
-use Rattle.std.proofs.Common.{◌+◌, get_or, drop, sym, ap, ◌∙◌, arith}
-use Rattle.table.specs.Slots.{empty_slot}
-use Rattle.fabric.specs.Changes.{programmed}
-use Rattle.book.specs.Books.{differ, changed_slots}
-use Rattle.fabric.proofs.Programs.{program_more, changed_more, at_most_one, program_all, changed_all}
+use Rattle.std.proofs.Common.{◌≡◌, ◌+◌, ◌∷◌, length, ◌⊎◌, ⊎_elim, inl, inr, rules}
+use Rattle.fabric.proofs.Programs.{going_more, going_all}
 use Rattle.fabric.proofs.program.program.Goals as goal
 
 pub loop-slot-preserved : goal.loop-slot-preserved
 loop-slot-preserved g c =
-    let old = c.args.old.now in
-    let new = c.args.new.now in
-    let i = c.loop-slot.slot in
-    let n = c.loop-slot.written in
-    let p = c.args.port in
-    let wrote = c.write_changed-written.ensures in (
-      ap (λ x. (n + x) + changed_slots (drop (i + 1) old) (drop (i + 1) new)) wrote.count ∙ changed_more p old new i (omega arith) (omega arith) n ∙ c.loop-slot.invariant.0,
-      omega (arith, at_most_one (differ (get_or old i empty_slot) (get_or new i empty_slot)) c.write_changed-written.result wrote.count),
-      ap (programmed p (i + 1) (drop (i + 1) old) (drop (i + 1) new)) wrote.after ∙ program_more p old new i (omega arith) (omega arith) (g.B.Bank.ports c.loop-slot.bank) ∙ c.loop-slot.invariant.2,
-    )
+    let it = c.loop-slot.slot-iterator in
+    let on = c.next.new.self in
+    let old = c.in-Some.before.now in
+    let new = c.in-Some.after.now in
+    let xs : it.iter.a.rest.now ≡ old ∷ on.iter.a.rest.now = search rules in
+    let ys : it.iter.b.rest.now ≡ new ∷ on.iter.b.rest.now = search rules in
+    let at : c.in-Some.slot ≡ it.count = search rules in
+    let next : on.count ≡ it.count + 1 = search rules in
+    going_more _ _ _ _ _ _ _ _ _ old new _ _ c.in-Some.slot on.count c.write_changed-written.result _ xs ys at next c.loop-slot.invariant c.write_changed-written.ensures.count c.write_changed-written.ensures.after
 
-pub returns : goal.returns
-returns g c =
-    let old = c.args.old.now in
-    let new = c.args.new.now in
-    let i = c.loop-slot.slot in
-    record {
-      count = sym (changed_all i c.loop-slot.written old new (omega arith)) ∙ c.loop-slot.invariant.0;
-      most = omega arith;
-      after = sym (program_all c.args.port i old new (g.B.Bank.ports c.loop-slot.bank) (omega arith)) ∙ c.loop-slot.invariant.2;
-    }
+pub returns-clause-count : goal.returns-clause-count
+returns-clause-count g c =
+    let it = c.loop-slot.slot-iterator in
+    let none : (length it.iter.a.rest.now ≡ 0) ⊎ (length it.iter.b.rest.now ≡ 0) = ⊎_elim (λ l. inl (search (rules, l))) (λ r. inr (search (rules, r))) c.in-None.ensures.steps.0 in
+    (going_all _ _ _ _ _ _ _ _ _ none c.loop-slot.invariant).0

@@ -1,21 +1,9 @@
-use Rattle.std.proofs.Common.{ℕ, Bool, Err, sym, ap, ◌∙◌, arith}
-use Rattle.table.specs.declared.refusal.Reason.TheVariants.{PortShut}
-use Rattle.bank.specs.declared.port.Port.{Port}
-use Rattle.bank.specs.Ports.{no_port}
-use Rattle.fabric.specs.Declines.{by_bank}
-use Rattle.fabric.proofs.Scans.{each_stop, each_go, each_end}
+use Rattle.std.proofs.Common.{None, Some, Err, ap, ◌∙◌}
+use Rattle.fabric.proofs.Starts.{start_found}
 use Rattle.fabric.proofs.starting.ask_all_open.Goals as goal
 
-abbrev open? : ℕ → Port → Bool
-open? k p = p.«open»
+pub returns-in-Some : goal.returns-in-Some
+returns-in-Some g c = ap Err c.port_shut.ensures ∙ start_found (g.B.Bank.ports c.args.bank.now) (Some c.in-Some.port) c.in-Some.ensures
 
-pub returns-then-not-is_open : goal.returns-then-not-is_open
-returns-then-not-is_open g c =
-    ap Err c.by_bank.ensures ∙ each_stop open? (by_bank PortShut) (g.B.Bank.ports c.args.bank.now) c.loop-port.port no_port (omega (arith, c.count-port-end.ensures)) (sym c.if-not-is_open.ensures) c.loop-port.invariant
-
-pub loop-port-preserved : goal.loop-port-preserved
-loop-port-preserved g c =
-    each_go open? (by_bank PortShut) (g.B.Bank.ports c.args.bank.now) c.loop-port.port no_port (omega (arith, c.count-port-end.ensures)) (sym c.if-not-is_open.ensures) c.loop-port.invariant
-
-pub returns : goal.returns
-returns g c = each_end open? (by_bank PortShut) (g.B.Bank.ports c.args.bank.now) c.loop-port.port (omega (arith, c.count-port-end.ensures)) c.loop-port.invariant
+pub returns-in-None : goal.returns-in-None
+returns-in-None g c = start_found (g.B.Bank.ports c.args.bank.now) None c.in-None.ensures

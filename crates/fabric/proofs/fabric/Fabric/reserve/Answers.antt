@@ -1,6 +1,5 @@
 use Rattle.std.proofs.Common.{arith}
 use Rattle.fabric.specs.States.{meaning}
-use Rattle.fabric.proofs.Reserves.{reserve_accepted}
 use Rattle.fabric.proofs.Paths.{admitted_path}
 use Rattle.fabric.proofs.fabric.Fabric.reserve.Goals as goal
 
@@ -9,10 +8,3 @@ fill_path-slots-requires g c =
     let ps = g.B.Bank.ports c.args.bank.now in
     let p = admitted_path (meaning c.args.self.now) ps c.args.number c.args.level c.args.weight c.args.path.now c.in_ok-service.field-0 c.in_ok-service.ensures in
     record { hops = p.0; below = λ k h. omega (arith, p.1 k h, (g.met.B.Bank.fits c.args.bank.now).most) }
-
-pub returns : goal.returns
-returns g c = record {
-  meets = reserve_accepted (meaning c.args.self.now) (meaning c.fill_path-slots.new.self) (g.B.Bank.ports c.args.bank.now) (g.B.Bank.ports c.fill_path-slots.new.bank)
-      c.args.number c.args.level c.args.weight c.args.path.now c.in_ok-service.field-0 c.fill_path-slots.result
-      c.in_ok-service.ensures c.fill_path-slots.ensures;
-}
