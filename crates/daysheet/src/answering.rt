@@ -1,9 +1,9 @@
-// The answer to a line: its command is carried out, and the answer line written into a lent buffer.
+// The answer to a line: its command is carried out, and the answer line written into a lent buffer. Fabric, bank and lanes go beside one another: as one struct of references each method would say of each that it stays the same one.
 ghost use Rattle.std.specs.Prelude.{◌≡◌};
 ghost use Rattle.fabric.specs.States.{meaning};
 ghost use Rattle.text.specs.Told.{asked_by};
 ghost use Rattle.text.specs.Answers.{Wrote};
-ghost use Rattle.daysheet.specs.Replies.{table_answer, said_as, acting, acted, obeyed, said_text, line_refusal, Responds, Answers};
+ghost use Rattle.daysheet.specs.Replies.{table_answer, said_as, acting, acted, obeyed, by_sheet, said_text, line_refusal, Responds, Answers};
 
 use crate::reply::{LineRefusal, Reply, Said};
 use bank::bank::Bank;
@@ -13,6 +13,7 @@ use fabric::fabric::Fabric;
 use lanes::lanes::Lanes;
 use manager::call::{Answer, Call};
 use manager::performing::perform;
+use table::refusal::Refusal;
 use text::answer::{
     ANSWER, IMAGE, write_no, write_ok, write_ok_image, write_ok_one, write_ok_three,
 };
@@ -24,22 +25,15 @@ fn tell_table<B: Bank>(bank: &B, port: usize) -> Result<Said, Declined>
     ensures { result ≡ table_answer (B.ports bank.now) port }
 {
     let mut image = [0u8; IMAGE];
-    match write_image(bank, port, &mut image) {
-        Ok(()) => Ok(Said::Image(image)),
-        Err(refusal) => Err(Declined { refusal, place: 0 }),
-    }
+    write_image(bank, port, &mut image)?;
+    Ok(Said::Image(image))
 }
 
 // What the manager answers, in the sheet's words.
-fn said(answer: Result<Answer, Declined>) -> Result<Said, Declined>
+fn say(answer: Result<Answer, Declined>) -> Result<Said, Declined>
     ensures { result ≡ said_as answer }
 {
-    match answer {
-        Ok(Answer::Reserved(spacing, grant, slots)) => Ok(Said::Reserved(spacing, grant, slots)),
-        Ok(Answer::Released(slots)) => Ok(Said::Released(slots)),
-        Ok(_) => Ok(Said::Nothing),
-        Err(declined) => Err(declined),
-    }
+    answer.map(Said::from)
 }
 
 // Carries out a command.
@@ -65,16 +59,28 @@ fn act<B: Bank, L: Lanes>(
                 weight: *weight,
                 path,
             };
-            said(perform(fabric, bank, lanes, &call))
+            say(perform(fabric, bank, lanes, &call))
         }
-        Command::Release(number) => said(perform(fabric, bank, lanes, &Call::release(*number))),
-        Command::Shut(port) => said(perform(fabric, bank, lanes, &Call::shut(*port))),
-        Command::Reopen(port) => said(perform(fabric, bank, lanes, &Call::reopen(*port))),
+        Command::Release(number) => say(perform(fabric, bank, lanes, &Call::Release(*number))),
+        Command::Shut(port) => say(perform(fabric, bank, lanes, &Call::Shut(*port))),
+        Command::Reopen(port) => say(perform(fabric, bank, lanes, &Call::Reopen(*port))),
         Command::Table(port) => tell_table(bank, *port),
     }
 }
 
+// A refusal that the sheet found, which names its own place.
+// A function, since `From` is the conversion of a refusal that names no place.
+fn by_sheet(refusal: Refusal) -> Declined
+    ensures { result ≡ by_sheet refusal }
+{
+    Declined {
+        refusal,
+        place: refusal.place,
+    }
+}
+
 // Carries out a line's command, or refuses the line.
+#[tactic(auto, unfolding(crate::specs::Replies::obeyed))]
 fn obey<B: Bank, L: Lanes>(
     fabric: &mut Fabric,
     bank: &mut B,
@@ -83,13 +89,8 @@ fn obey<B: Bank, L: Lanes>(
 ) -> Result<Said, Declined>
     ensures { acting result (meaning fabric.new) (B.ports bank.new) (L.queues lanes.new) ≡ obeyed (meaning fabric.old) (B.ports bank.old) (L.queues lanes.old) line.now }
 {
-    match parse(line) {
-        Ok(command) => act(fabric, bank, lanes, &command),
-        Err(refusal) => Err(Declined {
-            refusal,
-            place: refusal.place,
-        }),
-    }
+    let command = parse(line).map_err(by_sheet)?;
+    act(fabric, bank, lanes, &command)
 }
 
 // Writes the answer of an accepted line.
@@ -119,6 +120,7 @@ pub(crate) fn respond<B: Bank, L: Lanes>(
 ) -> (usize, Option<Declined>)
     ensures { Responds (obeyed (meaning fabric.old) (B.ports bank.old) (L.queues lanes.old) line.now) out.old out.new result.0 result.1 (meaning fabric.new) (B.ports bank.new) (L.queues lanes.new) }
 {
+    // Both at once, a count and perhaps a refusal, so a pair and no Result.
     match obey(fabric, bank, lanes, line) {
         Ok(said) => (write_said(out, &said), None),
         Err(declined) => (
@@ -150,12 +152,9 @@ pub fn answer_line<B: Bank, L: Lanes>(
 fn noted(number: usize, declined: Option<Declined>) -> Option<LineRefusal>
     ensures { result ≡ line_refusal number declined }
 {
-    match declined {
-        Some(d) => Some(LineRefusal {
-            refusal: d.refusal,
-            place: d.place,
-            line: number,
-        }),
-        None => None,
-    }
+    declined.map(|Declined { refusal, place }| LineRefusal {
+        refusal,
+        place,
+        line: number,
+    })
 }

@@ -1,5 +1,5 @@
 // A whole sheet, from its bytes to the bytes of its answers.
-ghost use Rattle.std.specs.Prelude.{◌≡◌, ◌≤◌, ◌++◌, length, take, IfOk, OnOk};
+ghost use Rattle.std.specs.Prelude.{◌≡◌, ◌++◌, IfOk, OnOk};
 ghost use Rattle.fabric.specs.States.{meaning};
 ghost use Rattle.text.specs.Lines.{lines_of};
 ghost use Rattle.daysheet.specs.Replies.{obeyed, answer_text};
@@ -24,14 +24,6 @@ pub const MOST_BYTES: usize = 65536;
 // A sheet is served on a bank of so many ports.
 const PORTS: usize = 4;
 
-// Adds the first bytes of a buffer.
-fn add_front(answers: &mut Vec<u8>, out: &[u8], bytes: usize) -> Result<(), AllocError>
-    requires { bytes ≤ length out.now }
-    ensures { OnOk result (answers.new.items ≡ answers.old.items ++ take bytes out.now) }
-{
-    answers.extend_from_slice(&out[0..bytes])
-}
-
 // Adds the answer to one more line.
 fn add_answer<B: Bank, L: Lanes>(
     fabric: &mut Fabric,
@@ -47,7 +39,7 @@ fn add_answer<B: Bank, L: Lanes>(
 {
     let mut out = [0u8; ANSWER];
     let (bytes, _) = respond(fabric, bank, lanes, line, &mut out);
-    add_front(answers, &out, bytes)
+    answers.extend_from_slice(&out[..bytes])
 }
 
 // The answers to the lines of a sheet, on a fabric and a bank as they are.
@@ -75,12 +67,12 @@ pub fn answer_sheet(heap: Global, input: &[u8]) -> Result<Vec<u8>, AllocError>
         let mut out = [0u8; ANSWER];
         let bytes = write_no(&mut out, Reason::LongInput, 0);
         let mut answers = Vec::new(heap);
-        add_front(&mut answers, &out, bytes)?;
+        answers.extend_from_slice(&out[..bytes])?;
         return Ok(answers);
     }
     let mut bank = RecordBank::new(PORTS);
     let mut lanes = RingLanes::new();
     let mut fabric = Fabric::new();
-    let _ = perform(&mut fabric, &mut bank, &mut lanes, &Call::start());
+    let _ = perform(&mut fabric, &mut bank, &mut lanes, &Call::Start);
     answer_lines(heap, &mut fabric, &mut bank, &mut lanes, input)
 }

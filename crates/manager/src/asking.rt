@@ -1,4 +1,4 @@
-// Calls that hold no path. (One made in its place, as `Call::Release(7)`, is not covered by the checker yet where it is passed on.)
+// Calls that hold no path, by name.
 ghost use Rattle.std.specs.Prelude.{◌≡◌};
 ghost use Rattle.manager.specs.Calls.{asked, start, release, shut, reopen, pick};
 

@@ -1,4 +1,4 @@
 pub mod Steps
-pub mod Hops
+pub mod Shorter
 pub mod Obeying
 pub mod Running

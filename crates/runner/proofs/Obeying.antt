@@ -12,12 +12,12 @@ use Rattle.fabric.specs.Declines.{by_bank}
 use Rattle.fabric.specs.States.{State}
 use Rattle.manager.specs.declared.call.Answer.{Answer}
 use Rattle.manager.specs.Calls.{Ask, leaving, performed}
-use Rattle.runner.specs.declared.world.Came.{Came}
+use Rattle.runner.specs.Bytes.{Came}
 use Rattle.runner.specs.Commands.{call, arrive}
 use Rattle.runner.specs.Worlds.{Lanes, script_ports, queues_at, came_of, joined_of, port_for, within, served, obeying, obeyed}
 
 -- a call, performed with the lanes of its port
-pub call_obeyed : (ls : List RingLanes) (d new : RingLanes) (port : ℕ) (a : Ask) (r : Result Answer Declined) (came : Result Came Declined) (s t : State) (ps qs : List Port)
+pub call_obeyed : (ls : List RingLanes) (d new : RingLanes) (port : ℕ) (a : Ask) (r : Result Answer Declined) (came : Came) (s t : State) (ps qs : List Port)
     → port ≡ port_for a → port < length ls → came ≡ came_of r
     → leaving r t qs (ring_queues new) ≡ performed s ps (ring_queues (get_or ls port d)) (within a)
     → obeying came t qs (map ring_queues (set ls port new)) ≡ obeyed s ps (map ring_queues ls) (call a)
@@ -31,7 +31,7 @@ call_obeyed ls d new port a r came s t ps qs for_a low is e =
     ∙ ap (λ p. served p Q (performed s ps (queues_at Q p) (within a))) for_a
 
 -- a packet that arrives
-pub arrive_obeyed : (ls : Lanes) (new : Lanes) (port lane bytes : ℕ) (came : Result Came Declined) (s : State) (ps : List Port)
+pub arrive_obeyed : (ls : Lanes) (new : Lanes) (port lane bytes : ℕ) (came : Came) (s : State) (ps : List Port)
     → came ≡ cond (nat_lt port script_ports) (joined_of (arrive_answer lane_room (queues_at ls port) lane bytes)) (Err (by_bank NoSuchPort 0))
     → new ≡ cond (nat_lt port script_ports) (set ls port (arrive_after lane_room (queues_at ls port) lane bytes)) ls
     → obeying came s ps new ≡ obeyed s ps ls (arrive port lane bytes)

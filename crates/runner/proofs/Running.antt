@@ -1,16 +1,14 @@
 -- A script that is carried out order by order, its answers written one behind another.
-use Rattle.std.proofs.Common.{◌≡◌, ℕ, suc, ◌+◌, ◌-◌, ◌<◌, ◌≤◌, List, [], ◌∷◌, ◌++◌, length, take, drop, Some, None, Result, nat_lt, sym, refl, ap, ◌∙◌, subst, append_assoc, length-append, arith}
+use Rattle.std.proofs.Common.{◌≡◌, ℕ, ◌+◌, ◌-◌, ◌<◌, ◌≤◌, List, [], ◌∷◌, ◌++◌, length, take, drop, nat_lt, sym, refl, ap, ◌∙◌, subst, append_assoc, length-append, arith}
 use Rattle.std.proofs.lemmas.List.{append-nil, length-take-le}
 use Rattle.std.proofs.lemmas.Bool.{lt-ltb, le-ltb, cond-true, cond-false}
 use Rattle.bank.specs.declared.port.Port.{Port}
-use Rattle.fabric.specs.declared.declined.Declined.{Declined}
 use Rattle.fabric.specs.States.{State}
 use Rattle.text.specs.Answers.{Wrote}
 use Rattle.text.proofs.Puts.{go_on}
 use Rattle.daysheet.proofs.Fronts.{front}
-use Rattle.runner.specs.declared.world.Came.{Came}
-use Rattle.runner.specs.Bytes.{longest, came_bytes}
-use Rattle.runner.specs.Commands.{Order, behind, step_of, orders_upto}
+use Rattle.runner.specs.Bytes.{Came, longest, came_bytes}
+use Rattle.runner.specs.Commands.{Order}
 use Rattle.runner.specs.Worlds.{Lanes, obeying, obeyed}
 use Rattle.runner.specs.Scripts.{answers_to}
 
@@ -20,19 +18,14 @@ unfolding answers_to
 answers_full room s ps ls [] h = refl
 answers_full room s ps ls (order ∷ orders) h = cond-true (nat_lt room longest) [] _ (lt-ltb room longest h)
 
-pub answers_none : (room k : ℕ) (s : State) (ps : List Port) (ls : Lanes) (bs : List ℕ) → None ≡ step_of bs → answers_to room s ps ls (orders_upto (suc k) bs) ≡ []
-unfolding answers_to orders_upto
-answers_none room k s ps ls bs e = ap (λ t. answers_to room s ps ls (behind t (orders_upto k))) (sym e)
-
 -- one more answer
-pub answers_more : (room k : ℕ) (s t : State) (ps qs : List Port) (ls ms : Lanes) (bs rest : List ℕ) (order : Order) (came : Result Came Declined)
-    → longest ≤ room → Some (order, rest) ≡ step_of bs → obeying came t qs ms ≡ obeyed s ps ls order
-    → answers_to room s ps ls (orders_upto (suc k) bs) ≡ came_bytes came ++ answers_to (room - length (came_bytes came)) t qs ms (orders_upto k rest)
-unfolding answers_to orders_upto
-answers_more room k s t ps qs ls ms bs rest order came h e o =
-    ap (λ x. answers_to room s ps ls (behind x (orders_upto k))) (sym e)
-    ∙ cond-false (nat_lt room longest) [] _ (le-ltb room longest h)
-    ∙ ap (λ x. came_bytes x.came ++ answers_to (room - length (came_bytes x.came)) x.state x.ports x.lanes (orders_upto k rest)) (sym o)
+pub answers_more : (room : ℕ) (s t : State) (ps qs : List Port) (ls ms : Lanes) (order : Order) (orders : List Order) (came : Came)
+    → longest ≤ room → obeying came t qs ms ≡ obeyed s ps ls order
+    → answers_to room s ps ls (order ∷ orders) ≡ came_bytes came ++ answers_to (room - length (came_bytes came)) t qs ms orders
+unfolding answers_to
+answers_more room s t ps qs ls ms order orders came h o =
+    cond-false (nat_lt room longest) [] _ (le-ltb room longest h)
+    ∙ ap (λ x. came_bytes x.came ++ answers_to (room - length (came_bytes x.came)) x.state x.ports x.lanes orders) (sym o)
 
 -- what stands at the front so far, and what is left, are the whole
 pub record Running (was now : List ℕ) (at : ℕ) (left whole : List ℕ) : Type 0 where
@@ -57,33 +50,21 @@ ends_within was new at end bs h w =
     omega (arith, w.len, ap length w.after, length-append (take at was) (bs ++ drop (at + length bs) was), length-append bs (drop (at + length bs) was), length-take-le at was h)
 
 -- one more turn of the loop: an order is carried out and answered
-module _ (was o o' : List ℕ) (at end : ℕ) (script bs rest : List ℕ) (turn : ℕ) (s t : State) (ps qs : List Port) (ls ms : Lanes) (order : Order) (came : Result Came Declined) (whole : List ℕ)
-    (more : turn < length script) (room : longest ≤ length o - at) (long : length o' ≡ length o) where
-  pub turn_more : Running was o at (answers_to (length o - at) s ps ls (orders_upto (length script - turn) bs)) whole
-      → Some (order, rest) ≡ step_of bs → obeying came t qs ms ≡ obeyed s ps ls order → Wrote o o' at end (came_bytes came)
-      → Running was o' end (answers_to (length o' - end) t qs ms (orders_upto (length script - (turn + 1)) rest)) whole
-  turn_more r step does wrote =
-      let k : ℕ = length script - (turn + 1) in
-      let z : length script - turn ≡ suc k = omega arith in
+module _ (was o o' : List ℕ) (at end : ℕ) (s t : State) (ps qs : List Port) (ls ms : Lanes) (order : Order) (orders left : List Order) (came : Came) (whole : List ℕ)
+    (room : longest ≤ length o - at) (long : length o' ≡ length o) where
+  pub turn_more : Running was o at (answers_to (length o - at) s ps ls orders) whole → orders ≡ order ∷ left
+      → obeying came t qs ms ≡ obeyed s ps ls order → Wrote o o' at end (came_bytes came)
+      → Running was o' end (answers_to (length o' - end) t qs ms left) whole
+  turn_more r is does wrote =
       let y : length o - at - length (came_bytes came) ≡ length o' - end = omega (arith, wrote.len) in
       running_more was o o' at end (came_bytes came) _ _ whole r
-      (ap (λ n. answers_to (length o - at) s ps ls (orders_upto n bs)) z
-      ∙ answers_more (length o - at) k s t ps qs ls ms bs rest order came room step does
-      ∙ ap (λ n. came_bytes came ++ answers_to n t qs ms (orders_upto k rest)) y)
+      (ap (answers_to (length o - at) s ps ls) is
+      ∙ answers_more (length o - at) s t ps qs ls ms order left came room does
+      ∙ ap (λ n. came_bytes came ++ answers_to n t qs ms left) y)
       wrote
 
 -- no further turn: the script ends
-pub turn_none : (was o : List ℕ) (at : ℕ) (script bs : List ℕ) (turn : ℕ) (s : State) (ps : List Port) (ls : Lanes) (whole : List ℕ) → turn < length script
-    → Running was o at (answers_to (length o - at) s ps ls (orders_upto (length script - turn) bs)) whole → None ≡ step_of bs → Wrote was o 0 at whole
-turn_none was o at script bs turn s ps ls whole more r e =
-    let k : ℕ = length script - (turn + 1) in
-    let z : length script - turn ≡ suc k = omega arith in
-    running_end was o at _ whole r (ap (λ n. answers_to (length o - at) s ps ls (orders_upto n bs)) z ∙ answers_none (length o - at) k s ps ls bs e)
-
--- all bytes were gone through
-pub turns_over : (was o : List ℕ) (at : ℕ) (script bs : List ℕ) (turn : ℕ) (s : State) (ps : List Port) (ls : Lanes) (whole : List ℕ) → length script ≤ turn
-    → Running was o at (answers_to (length o - at) s ps ls (orders_upto (length script - turn) bs)) whole → Wrote was o 0 at whole
-unfolding answers_to orders_upto
-turns_over was o at script bs turn s ps ls whole over r =
-    let z : length script - turn ≡ 0 = omega arith in
-    running_end was o at _ whole r (ap (λ n. answers_to (length o - at) s ps ls (orders_upto n bs)) z)
+pub turns_over : (was o : List ℕ) (at : ℕ) (s : State) (ps : List Port) (ls : Lanes) (orders : List Order) (whole : List ℕ)
+    → Running was o at (answers_to (length o - at) s ps ls orders) whole → orders ≡ [] → Wrote was o 0 at whole
+unfolding answers_to
+turns_over was o at s ps ls orders whole r e = running_end was o at _ whole r (ap (answers_to (length o - at) s ps ls) e)

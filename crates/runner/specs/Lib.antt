@@ -2,3 +2,4 @@ pub mod Bytes
 pub mod Commands
 pub mod Worlds
 pub mod Scripts
+pub mod Orders

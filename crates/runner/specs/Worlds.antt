@@ -1,5 +1,5 @@
 -- What a script's command does to the fabric, the bank and the lanes of its four ports.
-use Rattle.std.specs.Prelude.{ℕ, ◌%◌, cond, List, [], take, Ok, Err, Result, nat_lt, slice_index_or, slice_set}
+use Rattle.std.specs.Prelude.{ℕ, ◌%◌, cond, List, [], take, Some, None, Ok, Err, Result, nat_lt, slice_index_or, slice_set}
 use Rattle.table.specs.declared.refusal.Reason.TheVariants.{NoSuchPort}
 use Rattle.table.specs.declared.refusal.Refusal.{Refusal}
 use Rattle.bank.specs.declared.port.Port.{Port}
@@ -10,8 +10,7 @@ use Rattle.fabric.specs.Declines.{by_bank, handed_on}
 use Rattle.fabric.specs.States.{State}
 use Rattle.manager.specs.declared.call.Answer.{Answer}
 use Rattle.manager.specs.Calls.{Ask, start, reserve, release, shut, reopen, pick, Performed, performed}
-use Rattle.runner.specs.declared.world.Came.{Came}
-use Rattle.runner.specs.declared.world.Came.TheVariants.{Joined, Answered}
+use Rattle.runner.specs.Bytes.{Came}
 use Rattle.runner.specs.Commands.{Order, call, arrive}
 
 -- a script runs on so many ports
@@ -31,22 +30,22 @@ queues_at ls port = slice_index_or ls port []
 
 -- an answer, with the fabric, the ports of the bank and the lanes of the ports after it
 pub record Obeyed : Type 0 where
-  pub came : Result Came Declined
+  pub came : Came
   pub state : State
   pub ports : List Port
   pub lanes : Lanes
 
-abbrev pub obeying : Result Came Declined → State → List Port → Lanes → Obeyed
+abbrev pub obeying : Came → State → List Port → Lanes → Obeyed
 obeying r s ps ls = record { came = r; state = s; ports = ps; lanes = ls }
 
 -- what the manager answers
-abbrev pub came_of : Result Answer Declined → Result Came Declined
-came_of (Ok a) = Ok (Answered a)
+abbrev pub came_of : Result Answer Declined → Came
+came_of (Ok a) = Ok (Some a)
 came_of (Err d) = Err d
 
 -- what ring lanes answer to a packet
-abbrev pub joined_of : Result (Unit {0}) Refusal → Result Came Declined
-joined_of (Ok done) = Ok Joined
+abbrev pub joined_of : Result (Unit {0}) Refusal → Came
+joined_of (Ok done) = Ok None
 joined_of (Err refusal) = Err (handed_on refusal)
 
 -- the port whose lanes a call is given: for a pick its own, or any where it is not there

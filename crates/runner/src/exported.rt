@@ -1,47 +1,42 @@
 // What the static library exports.
-ghost use Rattle.std.specs.Prelude.{map, length};
+ghost use Rattle.std.specs.Prelude.{◌≡◌, map, length};
 ghost use Rattle.bank.specs.Records.{record_ports};
 ghost use Rattle.fabric.specs.States.{meaning};
 ghost use Rattle.lanes.specs.RingQueues.{ring_queues};
 ghost use Rattle.text.specs.Answers.{Wrote};
+ghost use Rattle.text.specs.Writers.{Writes};
 ghost use Rattle.daysheet.specs.Sheets.{sheet_text};
 ghost use Rattle.runner.specs.Commands.{orders_of};
 ghost use Rattle.runner.specs.Scripts.{answers_to, script_bytes, WholeOrNone};
 
 use crate::answers::{LONGEST, put_came};
-use crate::script::first_step;
+use crate::script::commands_of;
 use crate::world::{PORTS, obey};
 use bank::record::RecordBank;
 use daysheet::sheet::answer_sheet;
 use fabric::fabric::Fabric;
 use lanes::ring_lanes::RingLanes;
 use std::alloc::Global;
+use text::put::Writer;
 
-// Carries out the commands of a script, and writes the answers to the front of `out`. Answers how many bytes they have.
+// Carries out the commands of a script, and writes the answers to a buffer in which nothing is written yet.
 fn run(
     fabric: &mut Fabric,
     bank: &mut RecordBank,
     lanes: &mut [RingLanes; PORTS],
     script: &[u8],
-    out: &mut [u8],
-) -> usize
-    ensures { Wrote out.old out.new 0 result (answers_to (length out.old) (meaning fabric.old) (record_ports bank.old) (map ring_queues lanes.old) (orders_of script.now)) }
+    answers: &mut Writer,
+)
+    requires { answers.old.at ≡ 0 }
+    ensures { Writes answers.old answers.new (answers_to (length answers.old.out.now) (meaning fabric.old) (record_ports bank.old) (map ring_queues lanes.old) (orders_of script.now)) }
 {
-    let mut rest = script;
-    let mut at = 0;
-    // A command has at least one byte.
-    for _turn in 0..script.len() {
-        if out.len() - at < LONGEST {
-            return at;
+    for command in commands_of(script) {
+        if answers.out.len() - answers.at < LONGEST {
+            return;
         }
-        let Some(step) = first_step(rest) else {
-            return at;
-        };
-        let came = obey(fabric, bank, lanes, &step.command);
-        at = put_came(out, at, came);
-        rest = step.rest;
+        let came = obey(fabric, bank, lanes, &command);
+        put_came(answers, came);
     }
-    at
 }
 
 // Runs a call script, and writes the answers to the front of `out`. Answers how many bytes they have.
@@ -57,10 +52,13 @@ pub extern "C" fn fabric_run(script: &[u8], out: &mut [u8]) -> usize
         RingLanes::new(),
         RingLanes::new(),
     ];
-    run(&mut fabric, &mut bank, &mut lanes, script, out)
+    let mut answers = Writer { out, at: 0 };
+    run(&mut fabric, &mut bank, &mut lanes, script, &mut answers);
+    answers.at
 }
 
 // Serves a day sheet, and writes the answers to the front of `out`. Answers how many bytes they have; none are written where they do not fit.
+// 0 and no Result: C is given one number.
 #[unsafe(no_mangle)]
 pub extern "C" fn sheet_run(heap: Global, input: &[u8], out: &mut [u8]) -> usize
     ensures { WholeOrNone (sheet_text input.now) out.old out.new result }

@@ -6,10 +6,11 @@ ghost use Rattle.lanes.specs.RingQueues.{ring_queues};
 ghost use Rattle.fabric.specs.Declines.{by_bank};
 ghost use Rattle.lanes.specs.OneLane.{lane_room};
 ghost use Rattle.lanes.specs.Queues.{arrive_answer, arrive_after};
-ghost use Rattle.manager.specs.Calls.{reserve, leaving, performed};
+ghost use Rattle.manager.specs.Calls.{leaving, performed};
+ghost use Rattle.text.specs.Rows.{row_of};
 ghost use Rattle.table.specs.declared.refusal.Reason.TheVariants.{NoSuchPort};
 ghost use Rattle.runner.specs.Commands.{ask_of, order_of};
-ghost use Rattle.runner.specs.Worlds.{script_ports, most_hops, queues_at, came_of, joined_of, port_for, within, obeying, obeyed};
+ghost use Rattle.runner.specs.Worlds.{script_ports, most_hops, queues_at, joined_of, port_for, within, obeying, obeyed};
 
 use crate::script::{Command, Request};
 use bank::bank::Bank;
@@ -21,6 +22,7 @@ use lanes::ring_lanes::RingLanes;
 use manager::call::{Answer, Call};
 use manager::performing::perform;
 use table::refusal::{Layer, Reason, Refusal};
+use text::row::Row;
 
 // A script runs on so many ports.
 pub(crate) const PORTS: usize = 4;
@@ -28,48 +30,19 @@ pub(crate) const PORTS: usize = 4;
 // The most hops that a script's reserve has.
 const HOPS: usize = 255;
 
-// What an accepted command answers.
-#[derive(Clone, Copy)]
-pub(crate) enum Came {
-    Joined,
-    Answered(Answer),
-}
+// What a command came to: what the manager answered, or nothing more for a packet that joined.
+pub(crate) type Came = Result<Option<Answer>, Declined>;
 
 // The ports of a reserve's hops, at most as many as there can be.
-fn ports_of(hops: &[u8]) -> ([usize; HOPS], usize)
-    ensures count { result.1 ≡ length (take most_hops hops.now) }
-    ensures ports { take result.1 result.0 ≡ take most_hops hops.now }
-    ensures long { length result.0 ≡ most_hops }
+fn ports_of(hops: &[u8]) -> Row<usize, HOPS>
+    ensures { row_of result ≡ take most_hops hops.now }
 {
-    let mut ports = [0usize; HOPS];
-    let count = hops.len().min(HOPS);
-    for hop in 0..count {
-        ports[hop] = hops[hop] as usize;
+    let mut ports = Row::empty(0);
+    let most = hops.len().min(HOPS);
+    for port in &hops[..most] {
+        ports.push(*port as usize);
     }
-    (ports, count)
-}
-
-// Reserves along a path whose ports are bytes.
-fn reserve(
-    fabric: &mut Fabric,
-    bank: &mut RecordBank,
-    lanes: &mut RingLanes,
-    number: u32,
-    level: u32,
-    weight: u32,
-    hops: &[u8],
-) -> Result<Answer, Declined>
-    ensures { leaving result (meaning fabric.new) (record_ports bank.new) (ring_queues lanes.new) ≡ performed (meaning fabric.old) (record_ports bank.old) (ring_queues lanes.old) (reserve number level weight (take most_hops hops.now)) }
-{
-    let (ports, count) = ports_of(hops);
-    let path = &ports[0..count];
-    let call = Call::Reserve {
-        number,
-        level,
-        weight,
-        path,
-    };
-    perform(fabric, bank, lanes, &call)
+    ports
 }
 
 // Performs a call.
@@ -88,7 +61,17 @@ fn serve(
             level,
             weight,
             hops,
-        } => reserve(fabric, bank, lanes, number, level, weight, hops),
+        } => {
+            let ports = ports_of(hops);
+            let path = ports.as_slice();
+            let call = Call::Reserve {
+                number,
+                level,
+                weight,
+                path,
+            };
+            perform(fabric, bank, lanes, &call)
+        }
         Request::Release(number) => perform(fabric, bank, lanes, &Call::release(number)),
         Request::Shut(port) => perform(fabric, bank, lanes, &Call::shut(port)),
         Request::Reopen(port) => perform(fabric, bank, lanes, &Call::reopen(port)),
@@ -96,7 +79,7 @@ fn serve(
     }
 }
 
-// The port whose lanes a call is given.
+// The port whose lanes a call is given: for a pick its own, or any where it is not there; for another call port 0, whose lanes it leaves alone (an Option would be taken apart by the same 0).
 fn port_for(request: &Request) -> usize
     ensures value { result ≡ port_for (ask_of request.now) }
     ensures within { result < script_ports }
@@ -107,68 +90,39 @@ fn port_for(request: &Request) -> usize
     }
 }
 
-// What the manager answers.
-fn came_of(answer: Result<Answer, Declined>) -> Result<Came, Declined>
-    ensures { result ≡ came_of answer }
-{
-    match answer {
-        Ok(answer) => Ok(Came::Answered(answer)),
-        Err(declined) => Err(declined),
-    }
-}
-
-// A refusal whose question names no place of the script's.
-fn refused(reason: Reason) -> Declined
-    ensures { result ≡ by_bank reason 0 }
-{
-    let refusal = Refusal {
-        reason,
-        place: 0,
-        layer: Layer::Bank,
-    };
-    Declined { refusal, place: 0 }
-}
-
 // What ring lanes answer to a packet.
-fn joined_of(answer: Result<(), Refusal>) -> Result<Came, Declined>
+fn joined_of(answer: Result<(), Refusal>) -> Came
     ensures { result ≡ joined_of answer }
 {
-    match answer {
-        Ok(()) => Ok(Came::Joined),
-        Err(refusal) => Err(Declined { refusal, place: 0 }),
-    }
+    answer?;
+    Ok(None)
 }
 
 // A packet joins a lane of a port.
-fn arrive(
-    lanes: &mut [RingLanes; PORTS],
-    port: usize,
-    lane: u8,
-    length: u16,
-) -> Result<Came, Declined>
+fn arrive(lanes: &mut [RingLanes; PORTS], port: usize, lane: u8, length: u16) -> Came
     ensures came { result ≡ (if nat_lt port script_ports then joined_of (arrive_answer lane_room (queues_at (map ring_queues lanes.old) port) lane length) else Err (by_bank NoSuchPort 0)) }
     ensures after { map ring_queues lanes.new ≡ (if nat_lt port script_ports then slice_set (map ring_queues lanes.old) port (arrive_after lane_room (queues_at (map ring_queues lanes.old) port) lane length) else map ring_queues lanes.old) }
 {
     if port >= PORTS {
-        return Err(refused(Reason::NoSuchPort));
+        let refusal = Refusal::new(Layer::Bank, Reason::NoSuchPort, 0);
+        return Err(Declined::from(refusal));
     }
     joined_of(lanes[port].arrive(lane, length))
 }
 
-// Carries out a command. Every call is given the lanes of the port that it names.
+// Carries out a command. A pick is given the lanes of its port, any other call those of port 0, which it leaves alone.
 pub(crate) fn obey(
     fabric: &mut Fabric,
     bank: &mut RecordBank,
     lanes: &mut [RingLanes; PORTS],
     command: &Command,
-) -> Result<Came, Declined>
+) -> Came
     ensures { obeying result (meaning fabric.new) (record_ports bank.new) (map ring_queues lanes.new) ≡ obeyed (meaning fabric.old) (record_ports bank.old) (map ring_queues lanes.old) (order_of command.now) }
 {
     match command {
         Command::Call(request) => {
             let port = port_for(request);
-            let answer = serve(fabric, bank, &mut lanes[port], request);
-            came_of(answer)
+            serve(fabric, bank, &mut lanes[port], request).map(Some)
         }
         Command::Arrive { port, lane, length } => arrive(lanes, *port, *lane, *length),
     }

@@ -1,36 +1,45 @@
-use Rattle.std.proofs.Common.{◌-◌, map, length, sym, ap, ◌∙◌, arith}
+use Rattle.std.proofs.Common.{◌-◌, ◌∙◌, map, length, arith}
 use Rattle.bank.specs.Records.{record_ports}
 use Rattle.fabric.specs.States.{meaning}
 use Rattle.lanes.specs.RingQueues.{ring_queues}
 use Rattle.runner.specs.Bytes.{came_bytes}
-use Rattle.runner.specs.Commands.{order_of, told, orders_upto}
-use Rattle.runner.proofs.Running.{answers_full, running_end, ends_within, turn_more, turn_none, turns_over}
+use Rattle.runner.specs.Commands.{order_of}
+use Rattle.runner.specs.Orders.{orders_left}
+use Rattle.runner.proofs.Running.{answers_full, running_end, ends_within, turn_more, turns_over}
 use Rattle.runner.proofs.exported.run.Goals as goal
 
-pub loop-turn-preserved : goal.loop-turn-preserved
-loop-turn-preserved c =
-    let l = c.loop-turn in
+pub loop-command-preserved : goal.loop-command-preserved
+loop-command-preserved c =
+    let l = c.loop-command in
+    let a = l.answers in
+    let b = c.put_came.new.out in
+    let w = c.put_came.ensures.text in
     record {
-      within = ends_within l.out c.put_came-at.new.out l.at c.put_came-at.result (came_bytes c.obey-came.result) l.invariant.within c.put_came-at.ensures;
-      running = turn_more c.args.out.now l.out c.put_came-at.new.out l.at c.put_came-at.result c.args.script.now l.rest.now c.in-Some.step.rest.now l._turn
+      same = c.put_came.ensures.same ∙ l.invariant.same;
+      long = c.put_came.ensures.long ∙ l.invariant.long;
+      within = ends_within a.out.now b.out.now a.at b.at (came_bytes c.obey-came.result) l.invariant.within w;
+      running = turn_more c.args.answers.now.out.now a.out.now b.out.now a.at b.at
           (meaning l.fabric) (meaning c.obey-came.new.fabric) (record_ports l.bank) (record_ports c.obey-came.new.bank) (map ring_queues l.lanes) (map ring_queues c.obey-came.new.lanes)
-          (order_of c.in-Some.step.command) c.obey-came.result _ c.loop-turn-test.true c.if-out-at-lt-LONGEST.false (omega arith)
-          l.invariant.running (ap told (sym c.in-Some.is) ∙ c.first_step.ensures) c.obey-came.ensures c.put_came-at.ensures;
+          (order_of c.in-Some.command) (orders_left l.command-iterator) (orders_left c.next.new.self) c.obey-came.result _ (omega arith) c.put_came.ensures.long
+          l.invariant.running c.in-Some.ensures.steps c.obey-came.ensures w;
     }
 
-pub returns-then-out-at-lt-LONGEST : goal.returns-then-out-at-lt-LONGEST
-returns-then-out-at-lt-LONGEST c =
-    let l = c.loop-turn in
-    running_end c.args.out.now l.out l.at _ _ l.invariant.running
-    (answers_full (length l.out - l.at) (meaning l.fabric) (record_ports l.bank) (map ring_queues l.lanes) (orders_upto (length c.args.script.now - l._turn) l.rest.now) c.if-out-at-lt-LONGEST.true)
-
-pub returns-in_default : goal.returns-in_default
-returns-in_default c =
-    let l = c.loop-turn in
-    turn_none c.args.out.now l.out l.at c.args.script.now l.rest.now l._turn (meaning l.fabric) (record_ports l.bank) (map ring_queues l.lanes) _ c.loop-turn-test.true
-    l.invariant.running (ap told (sym c.in_default.is) ∙ c.first_step.ensures)
+pub returns-then-answers-lt-LONGEST : goal.returns-then-answers-lt-LONGEST
+returns-then-answers-lt-LONGEST c =
+    let l = c.loop-command in
+    record {
+      same = l.invariant.same;
+      long = l.invariant.long;
+      text = rw c.requires (running_end c.args.answers.now.out.now l.answers.out.now l.answers.at _ _ l.invariant.running
+          (answers_full (length l.answers.out.now - l.answers.at) (meaning l.fabric) (record_ports l.bank) (map ring_queues l.lanes) (orders_left l.command-iterator) c.if-answers-lt-LONGEST.true));
+    }
 
 pub returns : goal.returns
 returns c =
-    let l = c.loop-turn in
-    turns_over c.args.out.now l.out l.at c.args.script.now l.rest.now l._turn (meaning l.fabric) (record_ports l.bank) (map ring_queues l.lanes) _ c.loop-turn-test.false l.invariant.running
+    let l = c.loop-command in
+    record {
+      same = l.invariant.same;
+      long = l.invariant.long;
+      text = rw c.requires (turns_over c.args.answers.now.out.now l.answers.out.now l.answers.at (meaning l.fabric) (record_ports l.bank) (map ring_queues l.lanes) (orders_left l.command-iterator) _
+          l.invariant.running c.in-None.ensures.steps.0);
+    }

@@ -1,4 +1,4 @@
-use Rattle.std.proofs.Common.{map, sym, ap, ◌∙◌, arith}
+use Rattle.std.proofs.Common.{rules, map, sym, ap, ◌∙◌, arith}
 use Rattle.bank.specs.Records.{record_ports}
 use Rattle.lanes.specs.RingQueues.{ring_queues}
 use Rattle.fabric.specs.States.{meaning}
@@ -9,9 +9,9 @@ use Rattle.runner.proofs.world.obey.Goals as goal
 
 pub returns-in-Call : goal.returns-in-Call
 returns-in-Call c =
-    call_obeyed c.args.lanes.now c.index-lanes-port.result c.serve-answer.new.lanes c.port_for-port.result (ask_of c.in-Call.request) c.serve-answer.result c.came_of.result
-    (meaning c.args.fabric.now) (meaning c.serve-answer.new.fabric) (record_ports c.args.bank.now) (record_ports c.serve-answer.new.bank)
-    c.port_for-port.ensures.value (omega arith) c.came_of.ensures c.serve-answer.ensures
+    call_obeyed c.args.lanes.now c.index-lanes-port.result c.serve.new.lanes c.port_for-port.result (ask_of c.in-Call.request) c.serve.result c.map.result
+    (meaning c.args.fabric.now) (meaning c.serve.new.fabric) (record_ports c.args.bank.now) (record_ports c.serve.new.bank)
+    c.port_for-port.ensures.value (omega arith) (search rules) c.serve.ensures
     ∙ ap (λ x. obeyed (meaning c.args.fabric.now) (record_ports c.args.bank.now) (map ring_queues c.args.lanes.now) (order_of x)) (sym c.in-Call.is)
 
 pub returns-in-Arrive : goal.returns-in-Arrive

@@ -1,7 +1,7 @@
-use Rattle.std.proofs.Common.{◌≡◌, take, length}
-use Rattle.runner.specs.Worlds.{most_hops}
+use Rattle.std.proofs.Common.{◌≡◌, take}
+use Rattle.text.specs.Rows.{row_of}
 use Rattle.runner.proofs.world.ports_of.Given as goal
 
--- the hops so far are copied, and the array keeps its length
-abbrev pub invariant-loop-hop : goal.invariant-loop-hop
-invariant-loop-hop l = record { long : length l.ports ≡ most_hops; copied : take l.hop l.ports ≡ take l.hop l.hops }
+-- the hops so far are copied
+abbrev pub invariant-loop-port : goal.invariant-loop-port
+invariant-loop-port l = row_of l.ports ≡ take l.port-index l.port-items
