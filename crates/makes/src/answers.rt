@@ -1,61 +1,58 @@
 // How answers are printed.
-use std::io;
-use table::refusal::{Layer, Refusal};
+use std::fmt::Display;
+use std::{fmt, io};
+use table::refusal::Refusal;
 use table::slot::Slot;
 
-fn layer_name(layer: Layer) -> &'static str {
-    match layer {
-        Layer::Bank => "bank",
-        Layer::Lanes => "lanes",
-        Layer::Fabric => "fabric",
-        Layer::Sheet => "sheet",
+// A refusal, in this program's words.
+#[derive(Drop)]
+struct No(Refusal);
+
+impl Display for No {
+    fn fmt<W: fmt::Write>(&self, f: &mut fmt::Formatter<W>) -> fmt::Result {
+        let Refusal {
+            reason,
+            place,
+            layer,
+        } = self.0;
+        write!(f, "no {} at {place}, {layer}", reason.number())
     }
 }
 
-pub(crate) fn tell_no(rt: &HostRuntime, no: Refusal) -> io::Result<()> {
-    let number = no.reason.number();
-    let place = no.place;
-    let layer = layer_name(no.layer);
-    println!(rt; "no {number} at {place}, {layer}")
-}
+// What a slot holds.
+#[derive(Drop)]
+pub(crate) struct Held(pub(crate) Slot);
 
-pub(crate) fn tell_done(rt: &HostRuntime, answer: Result<(), Refusal>) -> io::Result<()> {
-    match answer {
-        Ok(()) => println!(rt; "done"),
-        Err(no) => tell_no(rt, no),
+impl Display for Held {
+    fn fmt<W: fmt::Write>(&self, f: &mut fmt::Formatter<W>) -> fmt::Result {
+        let Slot { lane, weight } = self.0;
+        write!(f, "lane {lane} weight {weight}")
     }
 }
 
-pub(crate) fn tell_slot(rt: &HostRuntime, answer: Result<Slot, Refusal>) -> io::Result<()> {
-    match answer {
-        Ok(what) => {
-            let lane = what.lane;
-            let weight = what.weight;
-            println!(rt; "lane {lane} weight {weight}")
+// The length of the packet that waits first, if any does.
+#[derive(Drop)]
+pub(crate) struct Waiting(pub(crate) Option<u16>);
+
+impl Display for Waiting {
+    fn fmt<W: fmt::Write>(&self, f: &mut fmt::Formatter<W>) -> fmt::Result {
+        match self.0 {
+            Some(bytes) => write!(f, "{bytes}"),
+            None => f.write_str("none"),
         }
-        Err(no) => tell_no(rt, no),
     }
 }
 
-pub(crate) fn tell_open(rt: &HostRuntime, answer: Result<bool, Refusal>) -> io::Result<()> {
+// Prints an answer: what was answered by `shown`, or the refusal.
+pub(crate) fn tell<T, S: Display + Drop, F: Fn(T) -> S>(
+    rt: &HostRuntime,
+    answer: Result<T, Refusal>,
+    shown: F,
+) -> io::Result<()>
+    requires { F.IsAlwaysCallable shown }
+{
     match answer {
-        Ok(true) => println!(rt; "open"),
-        Ok(false) => println!(rt; "shut"),
-        Err(no) => tell_no(rt, no),
-    }
-}
-
-pub(crate) fn tell_first(rt: &HostRuntime, answer: Result<Option<u16>, Refusal>) -> io::Result<()> {
-    match answer {
-        Ok(Some(bytes)) => println!(rt; "{bytes}"),
-        Ok(None) => println!(rt; "none"),
-        Err(no) => tell_no(rt, no),
-    }
-}
-
-pub(crate) fn tell_taken(rt: &HostRuntime, answer: Result<u16, Refusal>) -> io::Result<()> {
-    match answer {
-        Ok(bytes) => println!(rt; "{bytes}"),
-        Err(no) => tell_no(rt, no),
+        Ok(what) => println!(rt; "{}", shown(what)),
+        Err(refusal) => println!(rt; "{}", No(refusal)),
     }
 }

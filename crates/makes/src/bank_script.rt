@@ -1,10 +1,13 @@
 // One script for every make of bank.
-use crate::answers::{tell_done, tell_no, tell_open, tell_slot};
+use crate::answers::{Held, tell};
 use bank::bank::Bank;
 use bank::image::{read_slot, write_image};
-use std::io;
+use std::fmt::Display;
+use std::{fmt, io};
+use table::refusal::Refusal;
 use table::slot::Slot;
 
+// Calls as values, since they stand in constant tables and are printed.
 #[derive(Clone, Copy)]
 enum BankCall {
     Open(usize),
@@ -95,71 +98,74 @@ const READING: [BankCall; 7] = [
     BankCall::Read(1, 64),
 ];
 
-fn tell_image<B: Bank>(rt: &HostRuntime, bank: &B, port: usize) -> io::Result<()> {
+impl Display for BankCall {
+    fn fmt<W: fmt::Write>(&self, f: &mut fmt::Formatter<W>) -> fmt::Result {
+        match self {
+            BankCall::Open(port) => write!(f, "port {port}"),
+            BankCall::Slot(port, slot) => write!(f, "slot {port} {slot}"),
+            BankCall::Write(port, slot, lane, weight) => write!(
+                f,
+                "write {port} {slot} {lane} {weight}"
+            ),
+            BankCall::Shut(port) => write!(f, "shut {port}"),
+            BankCall::Reopen(port) => write!(f, "reopen {port}"),
+            BankCall::Image(port) => write!(f, "image {port}"),
+            BankCall::Read(port, slot) => write!(f, "read {port} {slot}"),
+        }
+    }
+}
+
+// The first eight bytes of an image, its last byte, and the byte behind it.
+#[derive(Drop)]
+struct Shortened([u8; 129]);
+
+impl Display for Shortened {
+    fn fmt<W: fmt::Write>(&self, f: &mut fmt::Formatter<W>) -> fmt::Result {
+        for byte in &self.0[..8] {
+            write!(f, "{byte:02x}")?;
+        }
+        write!(f, " .. {:02x} {:02x}", self.0[127], self.0[128])
+    }
+}
+
+// The image of a port, in a buffer of one byte more.
+fn image_of<B: Bank>(bank: &B, port: usize) -> Result<Shortened, Refusal> {
     let mut image = [170u8; 129];
-    match write_image(bank, port, &mut image) {
-        Ok(()) => {
-            for k in 0..8usize {
-                print!(rt; "{:02x}", image[k])?;
-            }
-            // The last byte of the image, and the byte behind it.
-            println!(rt; " .. {:02x} {:02x}", image[127], image[128])
-        }
-        Err(no) => tell_no(rt, no),
-    }
+    write_image(bank, port, &mut image)?;
+    Ok(Shortened(image))
 }
 
-fn tell_read<B: Bank>(rt: &HostRuntime, bank: &B, port: usize, slot: usize) -> io::Result<()> {
+// A slot as the image of its port has it.
+fn slot_by_image<B: Bank>(bank: &B, port: usize, slot: usize) -> Result<Slot, Refusal> {
     let mut image = [0u8; 128];
-    match write_image(bank, port, &mut image) {
-        Ok(()) => tell_slot(rt, read_slot(&image, slot)),
-        Err(no) => tell_no(rt, no),
-    }
-}
-
-fn serve_telling<B: Bank>(rt: &HostRuntime, bank: &B, call: BankCall) -> io::Result<()> {
-    match call {
-        BankCall::Open(port) => {
-            print!(rt; "port {port}: ")?;
-            tell_open(rt, bank.is_open(port))
-        }
-        BankCall::Slot(port, slot) => {
-            print!(rt; "slot {port} {slot}: ")?;
-            tell_slot(rt, bank.slot(port, slot))
-        }
-        BankCall::Image(port) => {
-            print!(rt; "image {port}: ")?;
-            tell_image(rt, bank, port)
-        }
-        BankCall::Read(port, slot) => {
-            print!(rt; "read {port} {slot}: ")?;
-            tell_read(rt, bank, port, slot)
-        }
-        _ => Ok(()),
-    }
+    write_image(bank, port, &mut image)?;
+    read_slot(&image, slot)
 }
 
 fn serve_call<B: Bank>(rt: &HostRuntime, bank: &mut B, call: BankCall) -> io::Result<()> {
+    print!(rt; "{call}: ")?;
     match call {
-        BankCall::Write(port, slot, lane, weight) => {
-            print!(rt; "write {port} {slot} {lane} {weight}: ")?;
-            tell_done(rt, bank.write(port, slot, Slot { lane, weight }))
-        }
-        BankCall::Shut(port) => {
-            print!(rt; "shut {port}: ")?;
-            tell_done(rt, bank.shut(port))
-        }
-        BankCall::Reopen(port) => {
-            print!(rt; "reopen {port}: ")?;
-            tell_done(rt, bank.reopen(port))
-        }
-        _ => serve_telling(rt, bank, call),
+        BankCall::Open(port) => tell(
+            rt,
+            bank.is_open(port),
+            |open| if open { "open" } else { "shut" },
+        ),
+        BankCall::Slot(port, slot) => tell(rt, bank.slot(port, slot), |what| Held(what)),
+        BankCall::Write(port, slot, lane, weight) => tell(
+            rt,
+            bank.write(port, slot, Slot { lane, weight }),
+            |()| "done",
+        ),
+        BankCall::Shut(port) => tell(rt, bank.shut(port), |()| "done"),
+        BankCall::Reopen(port) => tell(rt, bank.reopen(port), |()| "done"),
+        BankCall::Image(port) => tell(rt, image_of(bank, port), |image| image),
+        BankCall::Read(port, slot) => tell(rt, slot_by_image(bank, port, slot), |what| Held(what)),
     }
 }
 
 fn serve_calls<B: Bank>(rt: &HostRuntime, bank: &mut B, calls: &[BankCall]) -> io::Result<()> {
-    for k in 0..calls.len() {
-        serve_call(rt, bank, calls[k])?;
+    for call in calls {
+        serve_call(rt, bank, *call)?;
     }
     Ok(())
 }

@@ -1,10 +1,12 @@
 // One script for every make of lanes.
-use crate::answers::{tell_done, tell_first, tell_taken};
+use crate::answers::{Waiting, tell};
 use lanes::capture_lanes::CaptureLanes;
 use lanes::lanes::Lanes;
 use lanes::ring_lanes::RingLanes;
-use std::io;
+use std::fmt::Display;
+use std::{fmt, io};
 
+// Calls as values, since they stand in a constant table and are printed.
 #[derive(Clone, Copy)]
 enum LanesCall {
     First(u8),
@@ -64,47 +66,42 @@ pub(crate) const CAPTURE: [u8; 29] = [
 // A capture that announces one packet more than it has.
 const CUT_SHORT: [u8; 5] = [0, 2, 0, 0, 64];
 
-fn serve_call<L: Lanes>(rt: &HostRuntime, lanes: &mut L, call: LanesCall) -> io::Result<()> {
-    match call {
-        LanesCall::First(lane) => {
-            print!(rt; "first {lane}: ")?;
-            tell_first(rt, lanes.first(lane))
-        }
-        LanesCall::Take(lane) => {
-            print!(rt; "take {lane}: ")?;
-            tell_taken(rt, lanes.take(lane))
+impl Display for LanesCall {
+    fn fmt<W: fmt::Write>(&self, f: &mut fmt::Formatter<W>) -> fmt::Result {
+        match self {
+            LanesCall::First(lane) => write!(f, "first {lane}"),
+            LanesCall::Take(lane) => write!(f, "take {lane}"),
         }
     }
 }
 
-fn serve_calls<L: Lanes>(rt: &HostRuntime, lanes: &mut L, calls: &[LanesCall]) -> io::Result<()> {
-    for k in 0..calls.len() {
-        serve_call(rt, lanes, calls[k])?;
+fn serve_call<L: Lanes>(rt: &HostRuntime, lanes: &mut L, call: LanesCall) -> io::Result<()> {
+    print!(rt; "{call}: ")?;
+    match call {
+        LanesCall::First(lane) => tell(rt, lanes.first(lane), |first| Waiting(first)),
+        LanesCall::Take(lane) => tell(rt, lanes.take(lane), |bytes| bytes),
     }
-    Ok(())
 }
 
 // Runs the script.
 pub(crate) fn serve_lanes<L: Lanes>(rt: &HostRuntime, lanes: &mut L) -> io::Result<()> {
-    serve_calls(rt, lanes, &SCRIPT)
-}
-
-fn tell_arrival(rt: &HostRuntime, ring: &mut RingLanes, lane: u8, bytes: u16) -> io::Result<()> {
-    print!(rt; "arrive {lane} {bytes}: ")?;
-    tell_done(rt, ring.arrive(lane, bytes))
-}
-
-fn join_all(rt: &HostRuntime, ring: &mut RingLanes, packets: &[(u8, u16)]) -> io::Result<()> {
-    for k in 0..packets.len() {
-        let (lane, bytes) = packets[k];
-        tell_arrival(rt, ring, lane, bytes)?;
+    for call in &SCRIPT {
+        serve_call(rt, lanes, *call)?;
     }
     Ok(())
 }
 
+fn tell_arrival(rt: &HostRuntime, ring: &mut RingLanes, lane: u8, bytes: u16) -> io::Result<()> {
+    print!(rt; "arrive {lane} {bytes}: ")?;
+    tell(rt, ring.arrive(lane, bytes), |()| "done")
+}
+
 // The packets join the lanes.
 pub(crate) fn fill(rt: &HostRuntime, ring: &mut RingLanes) -> io::Result<()> {
-    join_all(rt, ring, &PACKETS)
+    for (lane, bytes) in &PACKETS {
+        tell_arrival(rt, ring, *lane, *bytes)?;
+    }
+    Ok(())
 }
 
 // A lane of a ring takes sixteen packets, and after a take one more.

@@ -4,6 +4,8 @@
 #[cfg(test)]
 mod bookings;
 #[cfg(test)]
+mod no;
+#[cfg(test)]
 mod picks;
 #[cfg(test)]
 mod pictures;

@@ -2,7 +2,7 @@
 use book::book::Book;
 use book::session::Session;
 use std::process::Abort;
-use table::rank::reverse;
+use table::rank::{SLOTS, reverse};
 use table::slot::Slot;
 
 #[derive(Clone, Copy)]
@@ -10,7 +10,7 @@ enum Turn {
     // A book without sessions.
     New,
     // A book with so many sessions of eight ranks, from the letter a on.
-    Eights(u8),
+    Eights(usize),
     // The session enters with so many ranks, from this rank on.
     Enter(u8, u8, usize),
     // It has no room for so many ranks.
@@ -132,10 +132,10 @@ fn session(letter: u8, size: u8) -> Session {
     }
 }
 
-fn eights(count: u8) -> Book {
+fn eights(count: usize) -> Book {
     let mut book = Book::new();
-    for k in 0..count {
-        let _ = book.fill_in(session(b'a'.wrapping_add(k), 8));
+    for letter in (b'a'..=b'h').take(count) {
+        let _ = book.fill_in(session(letter, 8));
     }
     book
 }
@@ -173,24 +173,18 @@ fn under(letter: u8) -> Slot {
 }
 
 // Whether the slots are those of the picture.
-fn shows(table: &[Slot; 64], picture: &[u8]) -> bool {
-    for slot in 0..64usize {
-        let letter = match picture.get(reverse(slot) / 4) {
-            Some(letter) => *letter,
-            None => return false,
-        };
-        if !table[slot].same(under(letter)) {
-            return false;
-        }
-    }
-    true
+fn shows(table: &[Slot; SLOTS], picture: &[u8]) -> bool {
+    table.iter().enumerate().all(|(slot, content)| {
+        picture
+            .get(reverse(slot) / 4)
+            .is_some_and(|letter| *content == under(*letter))
+    })
 }
 
 fn follow(rt: &impl Abort, turns: &[(Turn, &'static str)]) {
     let mut book = Book::new();
-    for k in 0..turns.len() {
-        let (turn, picture) = turns[k];
-        assert!(rt; made(&mut book, turn), "{k}");
+    for (k, (turn, picture)) in turns.iter().enumerate() {
+        assert!(rt; made(&mut book, *turn), "{k}");
         assert!(rt; shows(&book.contents(), picture.as_bytes()), "{picture}");
     }
 }
