@@ -2,11 +2,14 @@
 ghost use Rattle.std.specs.Prelude.{◌≡◌, ◌≤◌, nat_le};
 ghost use Rattle.table.specs.Slots.{bits};
 ghost use Rattle.book.specs.Books.{empty_ranks, free_ranks, place_for, filled, released, holds, contents};
+ghost use Rattle.book.specs.RankSets.{PutOn};
 ghost use Rattle.book.specs.Standing.{Standing};
 ghost use Rattle.book.specs.Laws.{FillLaw, Ended, RoomLaw, PlacedLaw};
 
 use crate::book::Book;
-use crate::entries::Entries;
+use crate::entries::{Entries, find};
+use crate::rank_set::{RankSet, level_of};
+use crate::ranks::HeldRanks;
 use crate::session::Session;
 use crate::slots::slots_of;
 use table::rank::SLOTS;
@@ -18,7 +21,8 @@ impl Book {
         ensures { result.ranks ≡ empty_ranks bits }
     {
         Book {
-            ranks: Entries::new(),
+            ranks: [None; SLOTS],
+            held: HeldRanks { bits: 0 },
         }
     }
 
@@ -27,14 +31,24 @@ impl Book {
         ensures value { result ≡ nat_le need (free_ranks bits self.now.ranks) }
         ensures even { RoomLaw bits self.now.ranks need result }
     {
-        need <= self.ranks.free_count()
+        need <= self.held.free_count()
     }
 
     // Whether the session of this number is in the book.
     pub fn holds(&self, number: u16) -> bool
         ensures { result ≡ holds number self.now.ranks }
     {
-        !self.ranks.is_empty() && self.ranks.find(number).is_some()
+        self.held.bits != 0 && find(&self.ranks, number).is_some()
+    }
+
+    // The set where a session goes, if the book takes it and has a free set of its size.
+    fn place_for(&self, session: Session) -> Option<RankSet>
+        ensures { PutOn session (place_for bits self.now.ranks session) result }
+    {
+        if !session.fits() || find(&self.ranks, session.number).is_some() {
+            return None;
+        }
+        self.held.lowest(level_of(session.size as usize)?)
     }
 
     // Puts a session onto the lowest free set of its size, and answers the set's first rank.
@@ -43,7 +57,11 @@ impl Book {
         ensures after { self.new.ranks ≡ filled bits self.old.ranks session }
         ensures law { FillLaw bits self.old.ranks session result self.new.ranks }
     {
-        self.ranks.fill_in(session)
+        let set = self.place_for(session)?;
+        let first = set.first();
+        self.ranks[first] = Some(session);
+        self.held.bits += set.mask();
+        Some(first)
     }
 
     // Ends the session of this number, and moves others until the free sets are in order again. Answers whether the book had it.
@@ -52,7 +70,16 @@ impl Book {
         ensures after { self.new.ranks ≡ released bits self.old.ranks number }
         ensures law { Ended bits self.old.ranks number self.new.ranks }
     {
-        self.ranks.release(number)
+        let Some(at) = find(&self.ranks, number) else {
+            return false;
+        };
+        let mut entries = Entries::of(&self.ranks, self.held);
+        entries.release_at(at);
+        *self = Book {
+            ranks: *entries.sessions(),
+            held: entries.held(),
+        };
+        true
     }
 
     // The slots that the book gives.
@@ -61,7 +88,6 @@ impl Book {
         ensures placed { PlacedLaw bits self.now.ranks result }
         ensures standing { Standing bits self.now.ranks }
     {
-        let sessions = self.ranks.sessions();
-        slots_of(sessions)
+        slots_of(&self.ranks)
     }
 }

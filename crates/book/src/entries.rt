@@ -1,13 +1,12 @@
 // The entries of a book, with the ranks that they hold.
-ghost use Rattle.std.specs.Prelude.{◌≡◌, ℕ, ◌*◌, ◌^◌, ◌<◌, ◌≤◌, ◌≢◌, ◌+◌, ◌⊎◌, length, None, nat_eq, slice_set};
+ghost use Rattle.std.specs.Prelude.{◌≡◌, ℕ, ◌*◌, ◌^◌, ◌<◌, ◌≤◌, ◌≢◌, ◌+◌, ◌⊎◌, length, None, slice_set};
 ghost use Rattle.table.specs.Slots.{bits, slots};
 ghost use Rattle.book.specs.Entries.{Ranks, is_number, level_for, place_of, size_at};
 ghost use Rattle.book.specs.Bits.{held_bits};
 ghost use Rattle.book.specs.Standing.{Seated};
 ghost use Rattle.book.specs.Levels.{FreeIn, Free, Beside};
 ghost use Rattle.book.specs.Moves.{exchanged, exchanged_sets, loose_rank, other_whole, whole_around};
-ghost use Rattle.book.specs.Books.{empty_ranks, free_ranks, place_for, filled};
-ghost use Rattle.book.specs.RankSets.{Found, PutOn};
+ghost use Rattle.book.specs.RankSets.{Found};
 
 use crate::rank_set::{RankSet, level_of};
 use crate::ranks::HeldRanks;
@@ -15,7 +14,7 @@ use crate::session::Session;
 use std::marker::Model;
 use table::rank::SLOTS;
 
-// Entry f holds the session whose set begins at rank f, and the sessions hold disjoint sets.
+// The entries of a book while a release moves them: entry f holds the session whose set begins at rank f, and the sessions hold disjoint sets.
 #[derive(Clone, Copy)]
 pub(crate) struct Entries {
     pub(crate) sessions: [Option<Session>; SLOTS],
@@ -48,6 +47,14 @@ fn is_number(number: u16, entry: Option<Session>) -> bool
     entry.is_some_and(|session| session.number == number)
 }
 
+// The rank at which the set of the session of this number begins.
+// A search, since a map by number would allocate.
+pub(crate) fn find(sessions: &[Option<Session>], number: u16) -> Option<usize>
+    ensures { result ≡ place_of number sessions.now }
+{
+    sessions.iter().position(|entry| is_number(number, *entry))
+}
+
 // Exchanges the ranks from `f` on with those from `g` on, `size` of them.
 fn exchange(sessions: &mut [Option<Session>], f: usize, g: usize, size: usize)
     requires left_in { f + size ≤ length sessions.old }
@@ -62,45 +69,30 @@ fn exchange(sessions: &mut [Option<Session>], f: usize, g: usize, size: usize)
 }
 
 impl Entries {
-    // No session.
-    pub(crate) fn new() -> Entries
-        ensures { result ≡ empty_ranks bits }
+    // The entries of a book, with the ranks that they hold.
+    pub(crate) fn of(sessions: &[Option<Session>; SLOTS], held: HeldRanks) -> Entries
+        requires seated { Seated bits sessions.now }
+        requires taken { held.bits ≡ held_bits bits sessions.now }
+        ensures { result ≡ sessions.now }
     {
         Entries {
-            sessions: [None; SLOTS],
-            held: HeldRanks { bits: 0 },
+            sessions: *sessions,
+            held,
         }
     }
 
-    // Whether no rank is held.
-    pub(crate) fn is_empty(&self) -> bool
-        ensures { result ≡ nat_eq (held_bits bits self.now) 0 }
-    {
-        self.held.bits == 0
-    }
-
     // The entries themselves.
-    pub(crate) fn sessions(&self) -> &[Option<Session>]
+    pub(crate) fn sessions(&self) -> &[Option<Session>; SLOTS]
         ensures { result.now ≡ self.now }
     {
         &self.sessions
     }
 
-    // How many ranks are free.
-    pub(crate) fn free_count(&self) -> usize
-        ensures { result ≡ free_ranks bits self.now }
+    // The ranks that they hold.
+    pub(crate) fn held(&self) -> HeldRanks
+        ensures { result.bits ≡ held_bits bits self.now }
     {
-        self.held.free_count()
-    }
-
-    // The rank at which the set of the session of this number begins.
-    // A search, since a map by number would allocate.
-    pub(crate) fn find(&self, number: u16) -> Option<usize>
-        ensures { result ≡ place_of number self.now }
-    {
-        self.sessions
-            .iter()
-            .position(|entry| is_number(number, *entry))
+        self.held
     }
 
     // The level of the set that begins at a rank, if one does.
@@ -109,16 +101,6 @@ impl Entries {
         ensures { result ≡ level_for bits (size_at self.now at) }
     {
         self.sessions[at].and_then(|session| level_of(session.size as usize))
-    }
-
-    // The set where a session goes, if the book takes it and has a free set of its size.
-    fn place_for(&self, session: Session) -> Option<RankSet>
-        ensures { PutOn session (place_for bits self.now session) result }
-    {
-        if !session.fits() || self.find(session.number).is_some() {
-            return None;
-        }
-        self.held.lowest(level_of(session.size as usize)?)
     }
 
     // Another whole free set of this level than that of an index.
@@ -143,18 +125,6 @@ impl Entries {
         ensures { result ≡ loose_rank bits self.now level }
     {
         self.held.loose_rank(level)
-    }
-
-    // Puts a session onto the lowest free set of its size, and answers the set's first rank.
-    pub(crate) fn fill_in(&mut self, session: Session) -> Option<usize>
-        ensures place { result ≡ place_for bits self.old session }
-        ensures after { self.new ≡ filled bits self.old session }
-    {
-        let set = self.place_for(session)?;
-        let first = set.first();
-        self.sessions[first] = Some(session);
-        self.held.bits += set.mask();
-        Some(first)
     }
 
     // Ends the session that holds a set.

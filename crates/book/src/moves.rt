@@ -1,11 +1,11 @@
 // How a release moves sessions: joining and ordering.
 ghost use Rattle.std.specs.Prelude.{◌≡◌, ◌*◌, ◌^◌, ◌<◌, ◌≤◌, length};
 ghost use Rattle.table.specs.Slots.{bits, slots};
-ghost use Rattle.book.specs.Entries.{size_at, holds};
+ghost use Rattle.book.specs.Entries.{size_at};
 ghost use Rattle.book.specs.Moves.{joined, ordered_at, ordered, released_set};
 ghost use Rattle.book.specs.Standing.{Standing};
 ghost use Rattle.book.specs.Levels.{FreeIn, Whole, Others};
-ghost use Rattle.book.specs.Books.{released_at, released};
+ghost use Rattle.book.specs.Books.{released_at};
 
 use crate::entries::Entries;
 use crate::rank_set::RankSet;
@@ -69,7 +69,7 @@ impl Entries {
     }
 
     // The same of a session of any level; where none begins at the rank, nothing is done.
-    fn release_at(&mut self, at: usize)
+    pub(crate) fn release_at(&mut self, at: usize)
         requires stands { Standing bits self.old }
         requires there { at < slots }
         ensures { self.new ≡ released_at bits self.old at }
@@ -77,18 +77,5 @@ impl Entries {
         if let Some(level) = self.level_at(at) {
             self.release_set(level, at);
         }
-    }
-
-    // Ends the session of this number, and brings the free sets in order again. Answers whether there was one.
-    pub(crate) fn release(&mut self, number: u16) -> bool
-        requires { Standing bits self.old }
-        ensures value { result ≡ holds number self.old }
-        ensures after { self.new ≡ released bits self.old number }
-    {
-        let Some(at) = self.find(number) else {
-            return false;
-        };
-        self.release_at(at);
-        true
     }
 }

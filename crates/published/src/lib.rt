@@ -9,3 +9,5 @@ mod no;
 mod picks;
 #[cfg(test)]
 mod pictures;
+#[cfg(test)]
+mod values;
