@@ -36,9 +36,11 @@ impl<'a> Writer<'a> {
         requires { self.old.at + length (decimal n) ≤ length self.old.out.now }
         ensures { Writes self.old self.new (decimal n) }
     {
-        if n >= 10 {
-            self.decimal(n / 10);
+        if n < 10 {
+            self.byte(b'0' + n as u8);
+            return;
         }
+        self.decimal(n / 10);
         self.byte(b'0' + (n % 10) as u8);
     }
 }
