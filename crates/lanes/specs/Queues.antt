@@ -1,5 +1,5 @@
 -- What lanes are: for each lane the packets that wait in it, by their lengths, the first first.
-use Rattle.std.specs.Prelude.{◌≡◌, ℕ, ◌≤◌, Bool, cond, ◌&&◌, List, [], ◌∷◌, ◌++◌, length, replicate, Some, None, Ok, Err, Option, Result, nat_le, nat_lt, slice_index_or, slice_set}
+use Rattle.std.specs.Prelude.{◌≡◌, ℕ, ◌≤◌, Bool, true, cond, ◌&&◌, List, [], ◌∷◌, ◌++◌, length, replicate, Some, None, Ok, Err, Option, Result, nat_le, nat_lt, slice_index_or, slice_set}
 use Rattle.std.specs.List.{AllByRecursion}
 use Rattle.table.specs.declared.refusal.Refusal.{Refusal}
 use Rattle.table.specs.declared.refusal.Layer.TheVariants.{Lanes}
@@ -19,6 +19,11 @@ Packet bytes = (1 ≤ bytes) × (bytes ≤ most_bytes)
 -- the same as a test
 abbrev pub is_packet : ℕ → Bool
 is_packet bytes = nat_le 1 bytes && nat_le bytes most_bytes
+
+-- whether each is a packet
+abbrev pub all_packets : List ℕ → Bool
+all_packets [] = true
+all_packets (x ∷ xs) = is_packet x && all_packets xs
 
 -- the packets of a lane
 abbrev pub queue : List (List ℕ) → ℕ → List ℕ

@@ -4,13 +4,11 @@ use Rattle.std.specs.List.{range_with_len, AllByRecursion}
 use Rattle.std.proofs.lemmas.List.FromFn.{length-map-range_with_len, get_or-map-range_with_len}
 use Rattle.std.proofs.ByRecursion.{kept_by_passes, All-weaker, All-map}
 use Rattle.std.proofs.lemmas.List.{get_or_past}
-use Rattle.std.proofs.lemmas.Bool.{and_parts, cases_lt, leb-true}
+use Rattle.std.proofs.lemmas.Bool.{and_parts, cases_lt}
 use Rattle.table.specs.Slots.{lane_count}
-use Rattle.lanes.specs.Queues.{most_bytes, Packet, is_packet, queue, LanesFit}
+use Rattle.lanes.specs.Queues.{Packet, queue, LanesFit}
+use Rattle.lanes.specs.Packets.{packet}
 use Rattle.lanes.specs.Captures.{record_count, length_of, is_for, packets_from, waiting}
-
-packet : (x : ℕ) → is_packet x ≡ true → Packet x
-packet x e = let p = and_parts _ _ e in (leb-true 1 x p.0, leb-true x most_bytes p.1)
 
 captured_packets : (bs : List ℕ) (lane k : ℕ) → AllByRecursion Packet (packets_from bs k lane)
 captured_packets bs lane k =
