@@ -1,12 +1,12 @@
 -- A new port fits a bank, and still does with another slot.
-use Rattle.std.proofs.Common.{◌≡◌, ℕ, ◌<◌, ◌≤◌, true, replicate, refl, arith, length-set}
+use Rattle.std.proofs.Common.{◌≡◌, ℕ, ◌<◌, ◌≤◌, Bool, replicate, refl, arith, length-set}
 use Rattle.std.proofs.lemmas.List.Elements.{All-replicate, All-set}
 use Rattle.table.specs.declared.slot.Slot.{Slot}
 use Rattle.table.specs.Slots.{slots, lane_count, most_weight, empty_slot}
 use Rattle.bank.specs.declared.port.Port.{Port}
 use Rattle.bank.specs.Ports.{PortFits, port_with_slot}
 
-pub fits_new : (w : Slot) → w ≡ empty_slot → PortFits (record { «open» = true; slots = replicate slots w })
+pub fits_new : {up : Bool} (w : Slot) → w ≡ empty_slot → PortFits (record { «open» = up; slots = replicate slots w })
 fits_new w is =
     record {
       long = refl;
